@@ -2,14 +2,12 @@
 use Rattle.std.specs.Prelude.{◌≡◌, ℕ, List, [], ◌∷◌, Option, Some, None, option_map, ◌<◌, Bool, true, false, ◌++◌, length}
 use Rattle.lnt_wire.specs.Reading.{At}
 use Rattle.lnt_wire.specs.Borrowed.{value_of}
-use Rattle.lnt_wire.specs.declared.form.Form.{Form}
-use Rattle.lnt_wire.specs.declared.form.Form.TheVariants.{LineStrp, Udata, Data16}
 use Rattle.lnt_header_bytes.specs.Borrowed.{BorrowedTable, borrowed_table, AreEntryBytes}
+use Rattle.lnt_header_bytes.specs.Stepping.{IsLayout}
+use Rattle.lnt_header_bytes.specs.declared.values.Layout.{Layout}
 use Rattle.lnt_header.specs.declared.header.Entry.{Entry}
 use Rattle.lnt_header.specs.declared.header.Pair.{Pair}
 use Rattle.lnt_files.specs.declared.components.Places.{Places}
-use Rattle.lnt_files.specs.declared.components.Usual.{Usual}
-use Rattle.lnt_files.specs.declared.components.Usual.TheVariants.{Path, IndexedPath, SummedPath, Other}
 pub use Rattle.lnt_files.specs.declared.walk.EntryView.{EntryView}
 use Rattle.lnt_files.specs.Contents.{content_path, content_directory_index, content_md5, place_of, component, directory_number}
 use Rattle.std.specs.List.{AllByRecursion, slice_get}
@@ -41,27 +39,6 @@ EntryStep old (Some view) new = GivesEntry old view new
 
 -- ---- how it is read
 
--- the pair of this content type and form
-abbrev pub pair_of : ℕ → Form → Pair
-pair_of content form = record { content = content; form = form }
-
--- the pairs of the usual formats: a path, the number of a directory, and a sum
-abbrev pub path_pair : Pair
-path_pair = pair_of content_path LineStrp
-
-abbrev pub directory_pair : Pair
-directory_pair = pair_of content_directory_index Udata
-
-abbrev pub sum_pair : Pair
-sum_pair = pair_of content_md5 Data16
-
--- The pairs are those of this one of the usual formats; another format isn't restricted.
-abbrev pub IsUsual : Usual → List Pair → Type 0
-IsUsual Path pairs = pairs ≡ path_pair ∷ []
-IsUsual IndexedPath pairs = pairs ≡ path_pair ∷ directory_pair ∷ []
-IsUsual SummedPath pairs = pairs ≡ path_pair ∷ directory_pair ∷ sum_pair ∷ []
-IsUsual Other pairs = Unit {0}
-
 -- the first component of each of the three content types stands at these places
 pub record ArePlaces (places : Places) (pairs : List Pair) : Type 0 where
   pub path : places.path ≡ place_of content_path pairs
@@ -73,8 +50,8 @@ abbrev pub left_of : BorrowedTable → ℕ → At → BorrowedTable
 left_of table left at = borrowed_table table.format table.order table.pairs left at.rest
 
 -- a walk is before this many entries, whose bytes remain
-pub record IsWalk (table : BorrowedTable) (usual : Usual) (places : Places) (left : ℕ) (at : At) : Type 0 where
-  pub usual_is : IsUsual usual table.pairs
+pub record IsWalk (table : BorrowedTable) (layout : Layout) (places : Places) (left : ℕ) (at : At) : Type 0 where
+  pub layout_is : IsLayout layout table.pairs
   pub places_are : ArePlaces places table.pairs
   pub order_is : at.order ≡ table.order
   pub bytes : AreEntryBytes (left_of table left at) at.rest

@@ -3,8 +3,8 @@ ghost use Rattle.std.specs.Prelude.{◌≡◌, ◌<◌, ◌≤◌, length};
 ghost use Rattle.lnt_header_bytes.specs.Marks.{from_entry};
 ghost use Rattle.lnt_files.specs.Walks.{EntryStep};
 
-use crate::components::{Places, Usual, places_of, read_entry, usual_of};
-use lnt_header_bytes::EntryTableView;
+use crate::components::{Places, places_of};
+use lnt_header_bytes::{EntryTableView, Layout, layout_of, read_entry};
 use lnt_wire::{Cursor, ValueView};
 use std::marker::Model;
 
@@ -26,7 +26,7 @@ pub(crate) struct EntryView<'a> {
 #[derive(Drop)]
 pub(crate) struct Entries<'t> {
     table: &'t EntryTableView<'t>,
-    usual: Usual,
+    layout: Layout,
     places: Places,
     left: u64,
     cursor: Cursor<'t>,
@@ -40,7 +40,7 @@ impl<'t> Model for Entries<'t> {
 
     ghost view = { λ w. left_of w.table.now w.left w.cursor };
 
-    ghost invariant = { λ w. IsWalk w.table.now w.usual w.places w.left w.cursor };
+    ghost invariant = { λ w. IsWalk w.table.now w.layout w.places w.left w.cursor };
 }
 
 impl<'t> Entries<'t> {
@@ -52,7 +52,7 @@ impl<'t> Entries<'t> {
         let pairs = table.pairs();
         Entries {
             table,
-            usual: usual_of(pairs),
+            layout: layout_of(pairs),
             places: places_of(pairs),
             left: table.count(),
             cursor: table.cursor(),
@@ -71,7 +71,7 @@ impl<'t> Entries<'t> {
         let pairs = table.pairs();
         let entries = Entries {
             table,
-            usual: usual_of(pairs),
+            layout: layout_of(pairs),
             places: places_of(pairs),
             left: table.count() - first,
             cursor,
@@ -90,7 +90,19 @@ impl<'t> Entries<'t> {
         }
         let format = self.table.format();
         let pairs = self.table.pairs();
-        let Ok(entry) = read_entry(&mut self.cursor, format, pairs, self.usual, self.places) else {
+        let none = EntryView {
+            path: None,
+            directory: None,
+            sum: None,
+        };
+        let Ok(entry) = read_entry(
+            &mut self.cursor,
+            format,
+            pairs,
+            self.layout,
+            &self.places,
+            none,
+        ) else {
             unreachable!()
         };
         self.left -= 1;

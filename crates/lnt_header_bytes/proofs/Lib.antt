@@ -2,6 +2,7 @@ pub mod AllowedLaws
 pub mod BorrowedLaws
 pub mod DecodeLemmas
 pub mod EncodeLemmas
+pub mod EntryValueLemmas
 pub mod FaultLaws
 pub mod FirstFieldLaws
 pub mod HeaderFrames

@@ -2,22 +2,25 @@
 -- lnt_dump pass over values too. No public contract speaks of it.
 use Rattle.std.specs.Prelude.{◌≤◌, length, take, drop, ◌≡◌, ℕ, List, [], ◌∷◌, ◌++◌}
 use Rattle.lnt_header.specs.declared.header.HeaderParts.{HeaderParts}
-use Rattle.lnt_header_bytes.specs.Borrowed.{header_over, IsHeaderOver, NumbersAndFormats, forms_of, BorrowedTable, borrowed_table}
+use Rattle.lnt_header_bytes.specs.Borrowed.{entry_of, header_over, IsHeaderOver, NumbersAndFormats, forms_of, BorrowedTable, borrowed_table}
 use Rattle.lnt_header_bytes.specs.Borrowed.{AreEntryBytes}
 use Rattle.lnt_header_bytes.specs.Marks.{AreMarksOver}
 use Rattle.lnt_header_bytes.specs.declared.kept.KeptEntries.{KeptEntries}
 use Rattle.lnt_wire.specs.declared.format.Order.{Order}
 use Rattle.lnt_wire.specs.declared.format.Format.{Format}
+use Rattle.lnt_wire.specs.declared.form.Form.{Form}
 use Rattle.lnt_wire.specs.declared.form.Form.TheVariants.{LineStrp, Udata, Data16}
+use Rattle.lnt_wire.specs.declared.form.FormValue.{FormValue}
+use Rattle.lnt_wire.specs.FormBytes.{ValueBytes}
 use Rattle.lnt_wire.specs.Reading.{At, Reads}
 use Rattle.lnt_header.specs.declared.header.Pair.{Pair}
 use Rattle.lnt_header_bytes.specs.declared.numbers.Singles.{Singles}
-use Rattle.lnt_header_bytes.specs.declared.pass.Layout.{Layout}
-use Rattle.lnt_header_bytes.specs.declared.pass.Layout.TheVariants.{Path, IndexedPath, SummedPath, Other}
+use Rattle.lnt_header_bytes.specs.declared.values.Layout.{Layout}
+use Rattle.lnt_header_bytes.specs.declared.values.Layout.TheVariants.{Path, IndexedPath, SummedPath, Other}
 use Rattle.lnt_header_bytes.specs.declared.read_table.EntryTableRead.{EntryTableRead}
 use Rattle.lnt_header_bytes.specs.FieldsBytes.{FieldsBytes}
 use Rattle.lnt_header.specs.Joins.{Each}
-use Rattle.lnt_header_bytes.specs.TableBytes.{TableOf}
+use Rattle.lnt_header_bytes.specs.TableBytes.{EntryBytes, TableOf}
 
 -- ---- what is kept of a header besides its numbers and formats
 
@@ -38,11 +41,6 @@ pub record IsKeptHeader (plain : NumbersAndFormats) (kept : KeptEntries) : Type 
       (take kept.file_size (drop kept.directory_size kept.bytes.items)) kept.directory_marks.items kept.file_marks.items
 
 -- ---- what is read
-
--- The read moved past bytes that encode a value.
-pub record Passes {X : Type 0} (Spells : X → List ℕ → Type 0) (old new : At) : Type 0 where
-  pub value : X
-  pub read : Reads Spells value old new
 
 -- The read moved past as many values as the count says, and these are the bytes.
 pub record PassesAll {X : Type 0} (count : ℕ) (Spells : X → List ℕ → Type 0) (bytes : List ℕ) (old new : At) : Type 0 where
@@ -84,6 +82,18 @@ IsLayout Path pairs = forms_of pairs ≡ LineStrp ∷ []
 IsLayout IndexedPath pairs = forms_of pairs ≡ LineStrp ∷ Udata ∷ []
 IsLayout SummedPath pairs = forms_of pairs ≡ LineStrp ∷ Udata ∷ Data16 ∷ []
 IsLayout Other pairs = Unit {0}
+
+-- The read gave the next value of an entry, after so many others, and what is kept of those and of this one.
+pub record KeepsNext (format : Format) (form : Form) (count : ℕ) (Before After : List FormValue → Type 0) (old new : At) : Type 0 where
+  pub value : FormValue
+  pub read : Reads (ValueBytes format old.order form) value old new
+  pub keeps : (values : List FormValue) → length values ≡ count → Before values → After (values ++ value ∷ [])
+
+-- The read moved past an entry with these pairs, and this is kept of its values.
+pub record KeepsEntry (format : Format) (pairs : List Pair) (HasKept : List FormValue → Type 0) (old new : At) : Type 0 where
+  pub values : List FormValue
+  pub read : Reads (EntryBytes format old.order pairs) (entry_of values) old new
+  pub kept : HasKept values
 
 -- The read gave one more value.
 pub record ReadsNext {X : Type 0} (Spells : X → List ℕ → Type 0) (before after : List X) (old new : At) : Type 0 where

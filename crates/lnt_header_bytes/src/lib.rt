@@ -15,6 +15,7 @@ mod read_table;
 mod start;
 mod table;
 mod table_view;
+mod values;
 mod view_encode;
 
 pub use decode::decode_header;
@@ -27,3 +28,4 @@ pub use numbers::read_lengths;
 pub use read_table::EntriesInPlace;
 pub use start::read_counted;
 pub use table_view::EntryTableView;
+pub use values::{KeepsValues, Layout, layout_of, read_entry};

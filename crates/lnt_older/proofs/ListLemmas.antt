@@ -15,9 +15,9 @@ use Rattle.lnt_header.proofs.ByteLaws.{one_digit}
 use Rattle.lnt_header.proofs.ReaderLaws.{reads_none, reads_more}
 use Rattle.lnt_older.specs.OlderBytes.{BeginsEntry, ListedBytes}
 use Rattle.lnt_older.specs.Lists.{BeginsWithPath, PassesList}
-use Rattle.lnt_header_bytes.specs.Stepping.{Passes}
+use Rattle.lnt_header_bytes.specs.Borrowed.{entry_of}
+use Rattle.lnt_header_bytes.specs.Stepping.{KeepsEntry}
 use Rattle.lnt_header_bytes.specs.TableBytes.{EntryBytes}
-use Rattle.lnt_header_bytes.proofs.PassLemmas.{refuses_value_passed, values_begun, values_next_passed, values_passed}
 use Rattle.lnt_older.proofs.Prefixes.{prefix_taken}
 use Rattle.std.proofs.lemmas.Grind.{common_steps}
 
@@ -59,26 +59,26 @@ pub record ListedSoFar (format : Format) (pairs : List Pair) (count : ℕ) (old 
 pub none_listed : (format : Format) (pairs : List Pair) (at : At) → ListedSoFar format pairs 0 at at
 none_listed format pairs at = grind (arith, common_steps, reads_none)
 
-pub one_more_listed : (format : Format) (pairs : List Pair) (count : ℕ) (old middle new : At) → BeginsWithPath pairs
-    → ListedSoFar format pairs count old middle → BeginsEntry middle.rest → Passes (EntryBytes format middle.order pairs) middle new
-    → ListedSoFar format pairs (count + 1) old new
-one_more_listed format pairs count old middle new path so_far begins p =
-    let long = entry_long format middle.order pairs p.value p.read.spelling path p.read.spelled in
+pub one_more_listed : (format : Format) (pairs : List Pair) (count : ℕ) (HasKept : List FormValue → Type 0) (old middle new : At)
+    → BeginsWithPath pairs → ListedSoFar format pairs count old middle → BeginsEntry middle.rest
+    → KeepsEntry format pairs HasKept middle new → ListedSoFar format pairs (count + 1) old new
+one_more_listed format pairs count HasKept old middle new path so_far begins p =
+    let long = entry_long format middle.order pairs (entry_of p.values) p.read.spelling path p.read.spelled in
     let size : length middle.rest ≡ length p.read.spelling + length new.rest =
     ap length p.read.whole ∙ length-append p.read.spelling new.rest in
     record {
-      entries = so_far.entries ++ p.value ∷ [];
-      count_is = length-append so_far.entries (p.value ∷ []) ∙ omega (arith, so_far.count_is);
+      entries = so_far.entries ++ entry_of p.values ∷ [];
+      count_is = length-append so_far.entries (entry_of p.values ∷ []) ∙ omega (arith, so_far.count_is);
       few = omega (arith, so_far.shorter, size, long);
       shorter = omega (arith, so_far.shorter, size, long);
-      read = reads_more (λ order. ListedBytes format order pairs) so_far.entries p.value old middle new so_far.read
-          (one_listed format pairs p.value middle new path begins p.read);
+      read = reads_more (λ order. ListedBytes format order pairs) so_far.entries (entry_of p.values) old middle new so_far.read
+          (one_listed format pairs (entry_of p.values) middle new path begins p.read);
     }
 
 -- an entry has a byte, so the walk ends
-pub list_shorter : (format : Format) (pairs : List Pair) (old new : At) → BeginsWithPath pairs
-    → Passes (EntryBytes format old.order pairs) old new → length new.rest < length old.rest
-list_shorter format pairs old new path p = grind (arith, common_steps, entry_long, length-append)
+pub list_shorter : (format : Format) (pairs : List Pair) (HasKept : List FormValue → Type 0) (old new : At) → BeginsWithPath pairs
+    → KeepsEntry format pairs HasKept old new → length new.rest < length old.rest
+list_shorter format pairs HasKept old new path p = grind (arith, common_steps, entry_long, length-append)
 
 -- the byte that ends a list is zero
 zero_read : (order : Order) (n : ℕ) (bytes rest whole : List ℕ) → NumberBytes order 1 n bytes → whole ≡ bytes ++ rest
@@ -105,9 +105,6 @@ list_ended format pairs count n bytes all left old middle new so_far none r all_
       };
       joined = simp (q.whole, r.whole, ended, prefix, append_assoc);
     }
-
--- what the walk over an entry cites
-pub ruleset entry_walk = (values_begun, values_next_passed, values_passed, refuses_value_passed)
 
 -- what the walk cites
 pub ruleset list_walk = (none_listed, one_more_listed, list_shorter, list_ended)

@@ -6,6 +6,7 @@ use Rattle.lnt_wire.specs.Bytes.{NoneSpelled}
 use Rattle.lnt_wire.specs.FormBytes.{form_code, HasNoZero}
 use Rattle.lnt_wire.specs.Leb128.{UnsignedLeb}
 use Rattle.lnt_wire.specs.declared.form.Form.TheVariants as forms
+use Rattle.lnt_wire.specs.declared.form.FormValue.{FormValue}
 use Rattle.lnt_wire.specs.declared.form.FormValue.TheVariants.{Text}
 use Rattle.lnt_wire.specs.declared.format.Format.{Format}
 use Rattle.lnt_wire.specs.declared.format.Order.{Order}
@@ -13,7 +14,7 @@ use Rattle.lnt_header.specs.Joins.{Each}
 use Rattle.lnt_header.specs.declared.header.Entry.{Entry}
 use Rattle.lnt_header.specs.declared.header.Pair.{Pair}
 use Rattle.lnt_header_bytes.specs.Borrowed.{entry_of}
-use Rattle.lnt_header_bytes.specs.Stepping.{Passes}
+use Rattle.lnt_header_bytes.specs.Stepping.{KeepsEntry}
 use Rattle.lnt_header_bytes.specs.TableBytes.{PairBytes, EntryBytes, TableBytes}
 use Rattle.lnt_header_bytes.proofs.TableLaws.{entry_code}
 use Rattle.lnt_older.specs.Lists.{BeginsWithPath}
@@ -135,15 +136,16 @@ pub no_file_zero : (format : Format) (order : Order) (count : ℕ) (listed bytes
     → IsFileZero format order count listed bytes
 no_file_zero format order count listed bytes none same h count_is lie = grind (arith, common_steps, append-nil)
 
-pub first_file_zero : (format : Format) (order : Order) (count : ℕ) (listed bytes left : List ℕ) (old new : At) → count ≢ 0
-    → old.rest ≡ listed → old.order ≡ order → Passes (EntryBytes format old.order file_pairs) old new → left ≡ new.rest
+pub first_file_zero : (format : Format) (order : Order) (count : ℕ) (listed bytes left : List ℕ)
+    (Kept : List FormValue → Type 0) (old new : At) → count ≢ 0 → old.rest ≡ listed → old.order ≡ order
+    → KeepsEntry format file_pairs Kept old new → left ≡ new.rest
     → bytes ≡ take (length listed - length left) listed → IsFileZero format order count listed bytes
-first_file_zero format order count listed bytes left old new some rest_is order_is p left_is bytes_are [] count_is lie =
+first_file_zero format order count listed bytes left Kept old new some rest_is order_is p left_is bytes_are [] count_is lie =
     absurd (some (sym count_is))
-first_file_zero format order count listed bytes left old new some rest_is order_is p left_is bytes_are (file ∷ files) count_is each =
+first_file_zero format order count listed bytes left Kept old new some rest_is order_is p left_is bytes_are (file ∷ files) count_is each =
     let whole : listed ≡ p.read.spelling ++ new.rest = sym rest_is ∙ p.read.whole in
-    let same = (entry_code format order file_pairs).one file p.value each.prefix p.read.spelling each.back new.rest
-    each.first.spelled (subst (λ (o : Order). EntryBytes format o file_pairs p.value p.read.spelling) order_is p.read.spelled)
+    let same = (entry_code format order file_pairs).one file (entry_of p.values) each.prefix p.read.spelling each.back new.rest
+    each.first.spelled (subst (λ (o : Order). EntryBytes format o file_pairs (entry_of p.values) p.read.spelling) order_is p.read.spelled)
     (sym each.joined ∙ whole) in
     let here : bytes ≡ each.prefix = prefix_taken p.read.spelling whole left_is bytes_are ∙ sym same.1 in
     record {

@@ -1,15 +1,12 @@
 //! The lists of directories and files of older units (DWARF 4, section 6.2.4).
-ghost use Rattle.std.specs.Prelude.{◌↔◌, IfErr, IfOk, IsTrue, OnOk};
+ghost use Rattle.std.specs.Prelude.{◌↔◌, IfErr, IfOk, IsTrue};
 ghost use Rattle.lnt_wire.specs.Reading.{Refuses};
-ghost use Rattle.lnt_header_bytes.specs.Stepping.{Passes};
-ghost use Rattle.lnt_header_bytes.specs.TableBytes.{EntryBytes};
-ghost use Rattle.lnt_header_bytes.specs.TableFaults.{IsEntryFault};
 ghost use Rattle.lnt_older.specs.Lists.{BeginsWithPath, IsListFault, PassesList};
 ghost use Rattle.lnt_older.specs.OlderBytes.{BeginsEntry, ListBytes};
 
 use lnt_header::Pair;
 use lnt_header::content::{DIRECTORY_INDEX, PATH, SIZE, TIMESTAMP};
-use lnt_header_bytes::EntriesInPlace;
+use lnt_header_bytes::{EntriesInPlace, Layout, read_entry};
 use lnt_wire::{Cursor, Fault, Form, Format};
 
 macro_rules! pair {
@@ -51,7 +48,7 @@ pub fn pass_listed<'a>(
     let all = cursor.rest();
     let mut count = 0;
     while is_listed(cursor) {
-        pass_entry(cursor, format, pairs)?;
+        read_entry(cursor, format, pairs, Layout::Other, &(), ())?;
         count += 1;
     }
     let (bytes, _) = all.split_at(all.len() - cursor.rest().len());
@@ -64,21 +61,4 @@ fn is_listed(cursor: &Cursor<'_>) -> bool
     ensures { IsTrue result ↔ BeginsEntry cursor.now.rest }
 {
     cursor.rest().first().is_some_and(|byte| *byte != 0)
-}
-
-// Moves past the next entry.
-#[tactic(auto, using(crate::proofs::ListLemmas::entry_walk))]
-pub(crate) fn pass_entry(
-    cursor: &mut Cursor<'_>,
-    format: Format,
-    pairs: &[Pair],
-) -> Result<(), Fault>
-    ensures ok { OnOk result (Passes (EntryBytes format cursor.old.order pairs.now) cursor.old cursor.new) }
-    ensures err { IfErr result (λ fault. Refuses (IsEntryFault format cursor.old.order pairs.now)
-        (EntryBytes format cursor.old.order pairs.now) cursor.old fault) }
-{
-    for pair in pairs {
-        cursor.value(pair.form, format)?;
-    }
-    Ok(())
 }

@@ -10,9 +10,9 @@ ghost use Rattle.lnt_older.specs.Upgraded.{IsCountFromZero, IsFileZero, IsTooLon
 ghost use Rattle.lnt_older.specs.declared.version.OlderVersion.TheVariants.{Four};
 
 use crate::header::OlderHeader;
-use crate::lists::{FILE_PAIRS, pass_entry};
+use crate::lists::FILE_PAIRS;
 use crate::unit::OlderUnit;
-use lnt_header_bytes::{EntriesInPlace, add_around, add_both};
+use lnt_header_bytes::{EntriesInPlace, Layout, add_around, add_both, read_entry};
 use lnt_wire::{Cursor, EncodeFault, Format, Order, append_uleb};
 use std::alloc::{AllocError, Global};
 
@@ -146,7 +146,7 @@ fn file_zero<'a>(listed: EntriesInPlace<'a>, format: Format, order: Order) -> &'
         return listed.bytes;
     }
     let mut cursor = Cursor::new(listed.bytes, 0, order);
-    match pass_entry(&mut cursor, format, &FILE_PAIRS) {
+    match read_entry(&mut cursor, format, &FILE_PAIRS, Layout::Other, &(), ()) {
         Ok(()) => {
             let (first, _) = listed
                 .bytes

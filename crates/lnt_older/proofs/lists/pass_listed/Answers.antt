@@ -17,15 +17,15 @@ returns-clause-ok c =
     c.rest-all.result.now c.rest.result.now old middle new c.loop-format.invariant none c.in_ok-u8.ensures.ok
     c.rest-all.ensures c.rest.ensures c.split_at.ensures.front
 
-pub returns-in_err-pass_entry-clause-err : goal.returns-in_err-pass_entry-clause-err
-returns-in_err-pass_entry-clause-err c =
+pub returns-in_err-read_entry-clause-err : goal.returns-in_err-read_entry-clause-err
+returns-in_err-read_entry-clause-err c =
     let p = err_from_is_err_and c.from_residual.result c.from_residual.ensures.1 in
     let pairs = c.args.pairs.now in
     let old = c.args.cursor.now in
-    let fault = c.in_err-pass_entry.field-0.0 in
+    let fault = c.in_err-read_entry.field-0.0 in
     let begins : BeginsEntry c.loop-format.cursor.rest = grind (arith, common_steps, c.is_listed.ensures, c.loop-format-test.true) in
     rw (p.1, p.2) (entry_missing c.args.format pairs c.loop-format.count old c.loop-format.cursor fault c.loop-format.invariant begins
-    c.in_err-pass_entry.ensures.err)
+    c.in_err-read_entry.ensures.err)
 
 pub returns-in_err-u8-clause-err : goal.returns-in_err-u8-clause-err
 returns-in_err-u8-clause-err c =

@@ -1,0 +1,143 @@
+//! The values of an entry (DWARF 5, section 6.2.4.1), read one after another, and what is kept of them.
+//!
+//! Entries with the layouts that compilers write are read without a match on the form of each value.
+ghost use Rattle.std.specs.Prelude.{[], IfOk, IfErr};
+ghost use Rattle.lnt_wire.specs.FormBytes.{ValueBytes};
+ghost use Rattle.lnt_wire.specs.FormFaults.{IsValueFault};
+ghost use Rattle.lnt_wire.specs.Reading.{Refuses, RefusesField};
+ghost use Rattle.lnt_header_bytes.specs.Stepping.{IsLayout, KeepsNext, KeepsEntry};
+ghost use Rattle.lnt_header_bytes.specs.TableBytes.{EntryBytes};
+ghost use Rattle.lnt_header_bytes.specs.TableFaults.{IsEntryFault};
+
+use lnt_header::Pair;
+use lnt_wire::{Cursor, Fault, Form, Format, ValueView};
+
+/// The forms of the entries of a table. A layout doesn't fix the content types; its name says what compilers use it for.
+#[derive(Clone, Copy)]
+pub enum Layout {
+    /// A `LineStrp`: a path in `.debug_line_str`.
+    Path,
+    /// The same, and a `Udata`: the index of a directory.
+    IndexedPath,
+    /// The same, and a `Data16`: an MD5 sum.
+    SummedPath,
+    /// Any forms, including those above.
+    Other,
+}
+
+/// The layout of entries with these pairs.
+pub fn layout_of(pairs: &[Pair]) -> Layout
+    ensures { IsLayout result pairs.now }
+{
+    match pairs {
+        [path] if path.form == Form::LineStrp => Layout::Path,
+        [path, directory] if path.form == Form::LineStrp && directory.form == Form::Udata => {
+            Layout::IndexedPath
+        }
+        [path, directory, sum]
+            if path.form == Form::LineStrp
+                && directory.form == Form::Udata
+                && sum.form == Form::Data16 => { Layout::SummedPath }
+        _ => Layout::Other,
+    }
+}
+
+/// Keeps something of the values of an entry. Contracts see by `has_kept` whether it has kept what it should of some values.
+pub trait KeepsValues<'a> {
+    ghost use Rattle.std.specs.Prelude.{◌≡◌, ◌++◌, ◌∷◌, List, [], length};
+    ghost use Rattle.lnt_wire.specs.Borrowed.{value_of};
+    ghost use Rattle.lnt_wire.specs.declared.form.FormValue.{FormValue};
+
+    /// What is kept.
+    type Kept: Copy;
+
+    ghost has_kept: { Self → Self.Kept → List FormValue → Type 0 };
+
+    /// What is kept once the next value was read too, the one with this index in the entry.
+    fn with_value(&self, kept: Self::Kept, index: usize, value: ValueView<'a>) -> Self::Kept
+        ensures { (values : List FormValue) → length values ≡ index → has_kept self.now kept values
+            → has_kept self.now result (values ++ value_of value.entry ∷ []) };
+}
+
+// Nothing is kept.
+impl<'a> KeepsValues<'a> for () {
+    type Kept = ();
+
+    ghost has_kept = { λ _ _ _. Unit {0} };
+
+    #[inline(always)]
+    fn with_value(&self, _kept: (), _index: usize, _value: ValueView<'a>) {}
+}
+
+/// Moves the cursor past the next entry, and returns what is kept of its values; `kept` is what is kept of none. Fails with the
+/// fault of the first invalid value; it is left open where the cursor is then. Allocates nothing.
+#[inline(always)]
+#[tactic(auto, using(crate::proofs::EntryValueLemmas::read_entry_lemmas))]
+pub fn read_entry<'a, K: KeepsValues<'a>>(
+    cursor: &mut Cursor<'a>,
+    format: Format,
+    pairs: &[Pair],
+    layout: Layout,
+    keeper: &K,
+    kept: K::Kept,
+) -> Result<K::Kept, Fault>
+    requires layout { IsLayout layout pairs.now }
+    requires none { K.has_kept keeper.now kept [] }
+    ensures ok { IfOk result (λ kept. KeepsEntry format pairs.now (K.has_kept keeper.now kept) cursor.old cursor.new) }
+    ensures err { IfErr result (λ fault. Refuses (IsEntryFault format cursor.old.order pairs.now)
+        (EntryBytes format cursor.old.order pairs.now) cursor.old fault) }
+{
+    match layout {
+        Layout::Path => next_value(cursor, format, Form::LineStrp, keeper, kept, 0),
+        Layout::IndexedPath => {
+            let kept = next_value(cursor, format, Form::LineStrp, keeper, kept, 0)?;
+            next_value(cursor, format, Form::Udata, keeper, kept, 1)
+        }
+        Layout::SummedPath => {
+            let kept = next_value(cursor, format, Form::LineStrp, keeper, kept, 0)?;
+            let kept = next_value(cursor, format, Form::Udata, keeper, kept, 1)?;
+            next_value(cursor, format, Form::Data16, keeper, kept, 2)
+        }
+        Layout::Other => read_values(cursor, format, pairs, keeper, kept),
+    }
+}
+
+// Moves past the next value, the one with this index in its entry, and returns what is kept of it and those before.
+#[inline(always)]
+fn next_value<'a, K: KeepsValues<'a>>(
+    cursor: &mut Cursor<'a>,
+    format: Format,
+    form: Form,
+    keeper: &K,
+    kept: K::Kept,
+    index: usize,
+) -> Result<K::Kept, Fault>
+    ensures ok { IfOk result (λ more. KeepsNext format form index (K.has_kept keeper.now kept) (K.has_kept keeper.now more)
+        cursor.old cursor.new) }
+    ensures err { IfErr result (λ fault.
+        RefusesField (IsValueFault format cursor.old.order form) (ValueBytes format cursor.old.order form) cursor.old fault) }
+{
+    let value = cursor.value(form, format)?;
+    Ok(keeper.with_value(kept, index, value))
+}
+
+// Moves past the values of the next entry, with any forms, and returns what is kept of them.
+#[inline(never)]
+#[tactic(auto, using(crate::proofs::EntryValueLemmas::read_values_lemmas))]
+fn read_values<'a, K: KeepsValues<'a>>(
+    cursor: &mut Cursor<'a>,
+    format: Format,
+    pairs: &[Pair],
+    keeper: &K,
+    mut kept: K::Kept,
+) -> Result<K::Kept, Fault>
+    requires { K.has_kept keeper.now kept [] }
+    ensures ok { IfOk result (λ kept. KeepsEntry format pairs.now (K.has_kept keeper.now kept) cursor.old cursor.new) }
+    ensures err { IfErr result (λ fault. Refuses (IsEntryFault format cursor.old.order pairs.now)
+        (EntryBytes format cursor.old.order pairs.now) cursor.old fault) }
+{
+    for (index, pair) in pairs.iter().enumerate() {
+        kept = next_value(cursor, format, pair.form, keeper, kept, index)?;
+    }
+    Ok(kept)
+}
