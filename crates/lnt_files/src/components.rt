@@ -38,36 +38,26 @@ impl<'a> KeepsValues<'a> for Places {
     ghost has_kept = { λ places entry values. AreComponents places values entry };
 
     #[inline(always)]
-    fn with_value(
-        &self,
-        entry: EntryView<'a>,
-        index: usize,
-        value: ValueView<'a>,
-    ) -> EntryView<'a> {
-        EntryView {
-            path: kept(entry.path, self.path, index, value),
-            directory: kept(entry.directory, self.directory, index, value),
-            sum: kept(entry.sum, self.sum, index, value),
-        }
+    fn keep(&self, entry: &mut EntryView<'a>, index: usize, value: ValueView<'a>) {
+        keep_at(self.path, &mut entry.path, index, value);
+        keep_at(self.directory, &mut entry.directory, index, value);
+        keep_at(self.sum, &mut entry.sum, index, value);
     }
 }
 
-// What is known of the component with index `wanted`, once the value with this index was read: this value if the two are
-// the same, and otherwise what was known before.
+// Keeps the value with this index if the component with index `wanted` is it.
 #[inline(always)]
 #[tactic(auto, using(crate::proofs::EntryLemmas::kept_here, crate::proofs::EntryLemmas::kept_earlier))]
-fn kept<'a>(
-    component: Option<ValueView<'a>>,
+fn keep_at<'a>(
     wanted: Option<usize>,
+    component: &mut Option<ValueView<'a>>,
     index: usize,
     value: ValueView<'a>,
-) -> Option<ValueView<'a>>
-    ensures { (values : List FormValue) → length values ≡ index → IsComponent wanted values component.entry
-        → IsComponent wanted (values ++ value_of value.entry ∷ []) result }
+)
+    ensures { (values : List FormValue) → length values ≡ index → IsComponent wanted values component.old
+        → IsComponent wanted (values ++ value_of value.entry ∷ []) component.new }
 {
     if wanted == Some(index) {
-        Some(value)
-    } else {
-        component
+        *component = Some(value);
     }
 }

@@ -90,18 +90,18 @@ impl<'t> Entries<'t> {
         }
         let format = self.table.format();
         let pairs = self.table.pairs();
-        let none = EntryView {
+        let mut entry = EntryView {
             path: None,
             directory: None,
             sum: None,
         };
-        let Ok(entry) = read_entry(
+        let Ok(()) = read_entry(
             &mut self.cursor,
             format,
             pairs,
             self.layout,
             &self.places,
-            none,
+            &mut entry,
         ) else {
             unreachable!()
         };

@@ -26,7 +26,7 @@ pub(crate) fn pass_entries<'a>(
     let all = cursor.rest();
     let layout = layout_of(pairs);
     for _ in 0..count {
-        read_entry(cursor, format, pairs, layout, &(), ())?;
+        read_entry(cursor, format, pairs, layout, &(), &mut ())?;
     }
     let (bytes, _) = all.split_at(all.len() - cursor.rest().len());
     Ok(bytes)

@@ -1,7 +1,7 @@
 //! The values of an entry (DWARF 5, section 6.2.4.1), read one after another, and what is kept of them.
 //!
 //! Entries in the layouts that compilers write are read without a match on each form: 0.95 to 0.98 of the instructions of `verify`.
-ghost use Rattle.std.specs.Prelude.{[], IfOk, IfErr};
+ghost use Rattle.std.specs.Prelude.{[], IfErr, OnOk};
 ghost use Rattle.lnt_wire.specs.FormBytes.{ValueBytes};
 ghost use Rattle.lnt_wire.specs.FormFaults.{IsValueFault};
 ghost use Rattle.lnt_wire.specs.Reading.{Refuses, RefusesField};
@@ -42,21 +42,21 @@ pub fn layout_of(pairs: &[Pair]) -> Layout
     }
 }
 
-/// Keeps something of the values of an entry. Contracts see by `has_kept` whether it has kept what it should of some values.
+/// Keeps something of the values of an entry. Contracts see by `has_kept` whether what is kept is what it should be of some values.
 pub trait KeepsValues<'a> {
     ghost use Rattle.std.specs.Prelude.{◌≡◌, ◌++◌, ◌∷◌, List, [], length};
     ghost use Rattle.lnt_wire.specs.Borrowed.{value_of};
     ghost use Rattle.lnt_wire.specs.declared.form.FormValue.{FormValue};
 
     /// What is kept.
-    type Kept: Copy;
+    type Kept;
 
     ghost has_kept: { Self → Self.Kept → List FormValue → Type 0 };
 
-    /// What is kept once the next value was read too, the one with this index in the entry.
-    fn with_value(&self, kept: Self::Kept, index: usize, value: ValueView<'a>) -> Self::Kept
-        ensures { (values : List FormValue) → length values ≡ index → has_kept self.now kept values
-            → has_kept self.now result (values ++ value_of value.entry ∷ []) };
+    /// Keeps what it needs of the next value, the one with this index in the entry.
+    fn keep(&self, kept: &mut Self::Kept, index: usize, value: ValueView<'a>)
+        ensures { (values : List FormValue) → length values ≡ index → has_kept self.now kept.old values
+            → has_kept self.now kept.new (values ++ value_of value.entry ∷ []) };
 }
 
 // Nothing is kept.
@@ -66,11 +66,11 @@ impl<'a> KeepsValues<'a> for () {
     ghost has_kept = { λ _ _ _. Unit {0} };
 
     #[inline(always)]
-    fn with_value(&self, _kept: (), _index: usize, _value: ValueView<'a>) {}
+    fn keep(&self, _kept: &mut (), _index: usize, _value: ValueView<'a>) {}
 }
 
-/// Moves the cursor past the next entry, and returns what is kept of its values; `kept` is what is kept of none. Fails with the
-/// fault of the first invalid value; it is left open where the cursor is then. Allocates nothing.
+/// Moves the cursor past the next entry, and keeps in `kept`, which has nothing yet, what the keeper needs of its values. Fails
+/// with the fault of the first invalid value; it is left open where the cursor is then, and what was kept. Allocates nothing.
 #[inline(always)]
 #[tactic(auto, using(crate::proofs::EntryValueLemmas::read_entry_lemmas))]
 pub fn read_entry<'a, K: KeepsValues<'a>>(
@@ -79,49 +79,50 @@ pub fn read_entry<'a, K: KeepsValues<'a>>(
     pairs: &[Pair],
     layout: Layout,
     keeper: &K,
-    kept: K::Kept,
-) -> Result<K::Kept, Fault>
+    kept: &mut K::Kept,
+) -> Result<(), Fault>
     requires layout { IsLayout layout pairs.now }
-    requires none { K.has_kept keeper.now kept [] }
-    ensures ok { IfOk result (λ kept. KeepsEntry format pairs.now (K.has_kept keeper.now kept) cursor.old cursor.new) }
+    requires none { K.has_kept keeper.now kept.old [] }
+    ensures ok { OnOk result (KeepsEntry format pairs.now (K.has_kept keeper.now kept.new) cursor.old cursor.new) }
     ensures err { IfErr result (λ fault. Refuses (IsEntryFault format cursor.old.order pairs.now)
         (EntryBytes format cursor.old.order pairs.now) cursor.old fault) }
 {
     match layout {
-        Layout::Path => next_value(cursor, format, Form::LineStrp, keeper, kept, 0),
+        Layout::Path => read_value(cursor, format, Form::LineStrp, keeper, kept, 0),
         Layout::IndexedPath => {
-            let kept = next_value(cursor, format, Form::LineStrp, keeper, kept, 0)?;
-            next_value(cursor, format, Form::Udata, keeper, kept, 1)
+            read_value(cursor, format, Form::LineStrp, keeper, kept, 0)?;
+            read_value(cursor, format, Form::Udata, keeper, kept, 1)
         }
         Layout::SummedPath => {
-            let kept = next_value(cursor, format, Form::LineStrp, keeper, kept, 0)?;
-            let kept = next_value(cursor, format, Form::Udata, keeper, kept, 1)?;
-            next_value(cursor, format, Form::Data16, keeper, kept, 2)
+            read_value(cursor, format, Form::LineStrp, keeper, kept, 0)?;
+            read_value(cursor, format, Form::Udata, keeper, kept, 1)?;
+            read_value(cursor, format, Form::Data16, keeper, kept, 2)
         }
         Layout::Other => read_values(cursor, format, pairs, keeper, kept),
     }
 }
 
-// Moves past the next value, the one with this index in its entry, and returns what is kept of it and those before.
+// Moves past the next value, the one with this index in its entry, and keeps what the keeper needs of it.
 #[inline(always)]
-fn next_value<'a, K: KeepsValues<'a>>(
+fn read_value<'a, K: KeepsValues<'a>>(
     cursor: &mut Cursor<'a>,
     format: Format,
     form: Form,
     keeper: &K,
-    kept: K::Kept,
+    kept: &mut K::Kept,
     index: usize,
-) -> Result<K::Kept, Fault>
-    ensures ok { IfOk result (λ more. KeepsNext format form index (K.has_kept keeper.now kept) (K.has_kept keeper.now more)
+) -> Result<(), Fault>
+    ensures ok { OnOk result (KeepsNext format form index (K.has_kept keeper.now kept.old) (K.has_kept keeper.now kept.new)
         cursor.old cursor.new) }
     ensures err { IfErr result (λ fault.
         RefusesField (IsValueFault format cursor.old.order form) (ValueBytes format cursor.old.order form) cursor.old fault) }
 {
     let value = cursor.value(form, format)?;
-    Ok(keeper.with_value(kept, index, value))
+    keeper.keep(kept, index, value);
+    Ok(())
 }
 
-// Moves past the values of the next entry, with any forms, and returns what is kept of them.
+// Moves past the next entry, of any forms, and keeps what the keeper needs of its values.
 #[inline(never)]
 #[tactic(auto, using(crate::proofs::EntryValueLemmas::read_values_lemmas))]
 fn read_values<'a, K: KeepsValues<'a>>(
@@ -129,15 +130,15 @@ fn read_values<'a, K: KeepsValues<'a>>(
     format: Format,
     pairs: &[Pair],
     keeper: &K,
-    mut kept: K::Kept,
-) -> Result<K::Kept, Fault>
-    requires { K.has_kept keeper.now kept [] }
-    ensures ok { IfOk result (λ kept. KeepsEntry format pairs.now (K.has_kept keeper.now kept) cursor.old cursor.new) }
+    kept: &mut K::Kept,
+) -> Result<(), Fault>
+    requires { K.has_kept keeper.now kept.old [] }
+    ensures ok { OnOk result (KeepsEntry format pairs.now (K.has_kept keeper.now kept.new) cursor.old cursor.new) }
     ensures err { IfErr result (λ fault. Refuses (IsEntryFault format cursor.old.order pairs.now)
         (EntryBytes format cursor.old.order pairs.now) cursor.old fault) }
 {
     for (index, pair) in pairs.iter().enumerate() {
-        kept = next_value(cursor, format, pair.form, keeper, kept, index)?;
+        read_value(cursor, format, pair.form, keeper, kept, index)?;
     }
-    Ok(kept)
+    Ok(())
 }

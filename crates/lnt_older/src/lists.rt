@@ -48,7 +48,7 @@ pub fn pass_listed<'a>(
     let all = cursor.rest();
     let mut count = 0;
     while is_listed(cursor) {
-        read_entry(cursor, format, pairs, Layout::Other, &(), ())?;
+        read_entry(cursor, format, pairs, Layout::Other, &(), &mut ())?;
         count += 1;
     }
     let (bytes, _) = all.split_at(all.len() - cursor.rest().len());

@@ -146,7 +146,14 @@ fn file_zero<'a>(listed: EntriesInPlace<'a>, format: Format, order: Order) -> &'
         return listed.bytes;
     }
     let mut cursor = Cursor::new(listed.bytes, 0, order);
-    match read_entry(&mut cursor, format, &FILE_PAIRS, Layout::Other, &(), ()) {
+    match read_entry(
+        &mut cursor,
+        format,
+        &FILE_PAIRS,
+        Layout::Other,
+        &(),
+        &mut (),
+    ) {
         Ok(()) => {
             let (first, _) = listed
                 .bytes

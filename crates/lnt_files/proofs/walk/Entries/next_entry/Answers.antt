@@ -16,8 +16,8 @@ pub invariant_of-self : goal.invariant_of-self
 invariant_of-self c =
     let w = c.self.inside in
     let table = w.table.now in
-    walk_goes_on table w.layout w.places w.left c.in-Ok.entry w.cursor c.read_entry.new.cursor c.if-self-eq0.false c.self.invariant
-    (in_table table c.format-format.result c.pairs-pairs.result.now w.places c.in-Ok.entry w.cursor c.read_entry.new.cursor
+    walk_goes_on table w.layout w.places w.left c.read_entry.new.kept w.cursor c.read_entry.new.cursor c.if-self-eq0.false c.self.invariant
+    (in_table table c.format-format.result c.pairs-pairs.result.now w.places c.read_entry.new.kept w.cursor c.read_entry.new.cursor
     c.format-format.ensures c.pairs-pairs.ensures c.self.invariant.places_are c.in-Ok.ensures.ok)
 
 pub returns : goal.returns
@@ -25,8 +25,8 @@ returns c =
     let w = c.self.inside in
     let table = w.table.now in
     let new = c.read_entry.new.cursor in
-    let given : GivesEntry (left_of table w.left w.cursor) c.in-Ok.entry (left_of table (w.left - 1) new) =
-    walk_steps table w.layout w.places w.left c.in-Ok.entry w.cursor new c.if-self-eq0.false c.self.invariant
-    (in_table table c.format-format.result c.pairs-pairs.result.now w.places c.in-Ok.entry w.cursor new c.format-format.ensures
+    let given : GivesEntry (left_of table w.left w.cursor) c.read_entry.new.kept (left_of table (w.left - 1) new) =
+    walk_steps table w.layout w.places w.left c.read_entry.new.kept w.cursor new c.if-self-eq0.false c.self.invariant
+    (in_table table c.format-format.result c.pairs-pairs.result.now w.places c.read_entry.new.kept w.cursor new c.format-format.ensures
     c.pairs-pairs.ensures c.self.invariant.places_are c.in-Ok.ensures.ok) in
-    subst (λ (t : BorrowedTable). GivesEntry t c.in-Ok.entry (left_of table (w.left - 1) new)) c.self.view_is given
+    subst (λ (t : BorrowedTable). GivesEntry t c.read_entry.new.kept (left_of table (w.left - 1) new)) c.self.view_is given
