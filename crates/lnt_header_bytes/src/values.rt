@@ -1,6 +1,6 @@
 //! The values of an entry (DWARF 5, section 6.2.4.1), read one after another, and what is kept of them.
 //!
-//! Entries in the layouts that compilers write are read without a match on each form: 0.95 to 0.98 of the instructions of `verify`.
+//! Entries in the layouts that compilers write are read without a match on each form: 0.97 to 0.99 of the instructions of `verify`.
 ghost use Rattle.std.specs.Prelude.{[], IfErr, OnOk};
 ghost use Rattle.lnt_wire.specs.FormBytes.{ValueBytes};
 ghost use Rattle.lnt_wire.specs.FormFaults.{IsValueFault};
