@@ -149,6 +149,7 @@ word x 'N of --op is 1 to 20 decimal digits, and below 2^64' lookup "${hello[@]}
 word 0 'ADDRESS of --dead is 0x and 1 to 16 hexadecimal digits' verify "${hello[@]}" --dead 0
 word 16 '--format is 32 or 64' convert examples/hello.debug_line --format 16 --order big
 word x '--order is little or big' convert examples/hello.debug_line --format 32 --order x
+word 101 'P of --at-least is 1 to 3 decimal digits, and at most 100' check "${hello[@]}" none --partial --at-least 101
 
 # ---- files that can't be read
 

@@ -1,6 +1,6 @@
 """What `check` has to print, with --partial and without: a slow reference, which compares the two answers between each two borders.
 
-    partial.py check SECTION TABLE [--partial] [--all] [--big] [--line-str FILE] [--str FILE] [--dead ADDRESS] [--skip-copies]
+    partial.py check SECTION TABLE [--partial [--at-least P]] [--all [--ends]] [--big] [--line-str FILE] [--str FILE] [--dead ADDRESS] [--skip-copies]
         prints it, with the exit status that the program has to end with
     partial.py make FOLDER COUNT SEED [SECTION..]
         writes so many cases, as tests/cases/README.md has them, of sections that are picked at random and of these: sections and tables,
@@ -119,14 +119,15 @@ def quoted(path):
 
 
 def stretches(pieces_of, partial):
-    """Each longest run of positions at which the two answers differ and stay the same two: the first position, and the two."""
-    found, end = [], None
+    """Each longest run of positions at which the two answers differ and stay the same two: the first position, the first one after it,
+    and the two."""
+    found = []
     for low, high, by_table, by_section in pieces_of:
         if by_table == by_section or partial and by_table is None:
             continue
-        if not (found and end == low and found[-1][1:] == (by_table, by_section)):
-            found.append((low, by_table, by_section))
-        end = high
+        if found and found[-1][1:] == (low, by_table, by_section):
+            low = found.pop()[0]
+        found.append((low, high, by_table, by_section))
     return found
 
 
@@ -147,7 +148,13 @@ def counts(pieces_of):
     return both, whole
 
 
-def check(section, table, partial, all_stretches):
+def line_40(stretch, ends):
+    low, end, by_table, by_section = stretch
+    place = "0x%x,%d" % low + (" up to 0x%x,%d" % end if ends else "")
+    return "no 40 differs at %s table %s section %s\n" % (place, shown(by_table), shown(by_section))
+
+
+def check(section, table, partial, all_stretches, ends=False, at_least=0):
     """The lines that are printed of the bytes of a table, and the status. The section is a function, which judges it first."""
     try:
         section = section()
@@ -157,9 +164,12 @@ def check(section, table, partial, all_stretches):
     compared = pieces(spans, told_spans(section, version))
     found = stretches(compared, partial)
     if found:
-        lines = ["no 40 differs at 0x%x,%d table %s section %s\n" % (*low, shown(one), shown(other)) for low, one, other in found]
-        return "".join(lines if all_stretches else lines[:1]), 1
-    return "yes\n" + ("answers %d of %d\n" % counts(compared) if partial else ""), 0
+        return "".join(line_40(stretch, ends) for stretch in (found if all_stretches else found[:1])), 1
+    if not partial:
+        return "yes\n", 0
+    both, whole = counts(compared)
+    few = both * 100 < at_least * whole
+    return ("no 46 " if few else "yes\n") + "answers %d of %d\n" % (both, whole), int(few)
 
 
 # ---- sections for cases
@@ -377,10 +387,14 @@ def made_case(picked, sections):
         table, names = b",".join(VERSIONS[version]) + b"\n", ["bad section"]
     if picked.randrange(20) == 0:
         given, names = broken(picked, given), ["broken"]
-    all_stretches = picked.randrange(2) > 0
-    said, status = check(given.section, table, True, all_stretches)
+    all_stretches, partial = picked.randrange(2) > 0, picked.randrange(6) > 0
+    ends, at_least = all_stretches and picked.randrange(2) > 0, picked.choice((None, None, 0, 1, 50, 99, 100, picked.randrange(101)))
+    at_least = at_least if partial else None
+    said, status = check(given.section, table, partial, all_stretches, ends, at_least or 0)
     files = {"section.bin": given.data, "table.csv": table}
-    words = ["check", "section.bin", "table.csv", "--partial", *["--all"] * all_stretches, *given.words]
+    words = ["check", "section.bin", "table.csv", *["--partial"] * partial, *["--all"] * all_stretches, *["--ends"] * ends, *given.words]
+    if at_least is not None:
+        words.append("--at-least=%0*d" % (picked.randrange(1, 4), at_least))
     for option, strings in ("--line-str", given.line), ("--str", given.general):
         if strings:
             words.append("%s=%s.bin" % (option, option[2:]))
@@ -411,7 +425,8 @@ def words():
     checked = words.add_parser("check", allow_abbrev=False)
     for name in "section", "table":
         checked.add_argument(name)
-    for name in "--partial", "--all", "--big", "--skip-copies", "--quiet":
+    checked.add_argument("--at-least", type=int, default=0)
+    for name in "--partial", "--all", "--ends", "--big", "--skip-copies", "--quiet":
         checked.add_argument(name, action="store_true")
     for name in "--line-str", "--str":
         checked.add_argument(name)
@@ -429,7 +444,7 @@ def checked(given):
     strings = Strings(*(held(name) if name else b"" for name in (given.line_str, given.str)))
     data, table = held(given.section), held(given.table)
     section = lambda: Section(data, strings, "big" if given.big else "little", given.dead, given.skip_copies)
-    return check(section, table, given.partial, given.all)
+    return check(section, table, given.partial, given.all, given.ends, given.at_least)
 
 
 def main():

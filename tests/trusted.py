@@ -1,7 +1,8 @@
 """Finds the definitions that the contract of `lnt_cli::run` leads to for a `check`, name by name, and compares their files with those
-of docs/TRUSTED.md: which they are, that each stands after those that it needs, and how many lines they have, also of a Yes alone. The
-same for `upgrade`, of whose files the page lists those that `check` doesn't need. And looks whether each file of specs/ begins with a
-sentence that says what it defines, which `docs/list definitions` prints."""
+of docs/TRUSTED.md: which they are, that each stands after those that it needs, and how many lines they have, also of a Yes alone, with
+its printed line, and with `--partial`. The same for `upgrade`, for `check --all` and for the whole contract, of whose files the page
+lists those that aren't above. And looks whether each file of specs/ begins with a sentence that says what it defines, which
+`docs/list definitions` prints."""
 
 import functools
 import glob
@@ -28,6 +29,9 @@ YES = [
     ("Rattle.lnt_records.specs.PathSpans", "path_spans"),
     ("Rattle.lnt_table.specs.AnyVersion", "told_paths"),
 ]
+PRINTED = [("Rattle.lnt_answers.specs.Verdicts", "checked_line"), ("Rattle.lnt_answers.specs.Verdicts", "checked_status")]
+PARTIAL = [("Rattle.lnt_table.specs.AnyVersion", "IsRightOf")]
+ALL = [ASKED, ("Rattle.lnt_cli.specs.Questions", "AreTableStretchesPrinted")]
 UPGRADE = [
     ASKED,
     ("Rattle.lnt_cli.specs.Answered", "AnswersUpgrade"),
@@ -35,7 +39,11 @@ UPGRADE = [
 ]
 COUNTS = r"(\d+) lines of definitions in (\d+) files"
 COUNTS_OF_YES = r"(\d+) lines in (\d+) files for a Yes"
+COUNTS_OF_PRINTED = r"(\d+) in (\d+) with its line"
+COUNTS_OF_PARTIAL = r"(\d+) in (\d+) for one with `--partial`"
 COUNTS_OF_UPGRADE = r"stands on (\d+) lines in (\d+) files, of which (\d+) aren't above"
+COUNTS_OF_ALL = r"leads to (\d+) lines in (\d+) files, of which (\d+) aren't above"
+COUNTS_OF_CONTRACT = r"The whole contract leads to (\d+) lines in (\d+) files"
 WORDS = r"(?:(?:abbrev|unfoldable|opaque|pub|record|data) )+"
 WORDS_OF_DATA = r"(?:pub )?data "
 
@@ -153,8 +161,9 @@ def leads():
         return ["the contract of %s names no %s" % (CONTRACT[1], CLAUSE[1])]
     _, _, named = closure([CLAUSE])
     _, _, of_check = closure(CHECK)
-    return ["%s doesn't lead to %s" % (CLAUSE[1], name) for module, name in CHECK + UPGRADE if (module, name) not in named] + [
-        "nothing that is said of a check leads to %s" % name for module, name in YES if (module, name) not in of_check
+    needed = CHECK + UPGRADE + ALL
+    return ["%s doesn't lead to %s" % (CLAUSE[1], name) for module, name in needed if (module, name) not in named] + [
+        "nothing that is said of a check leads to %s" % name for module, name in YES + PRINTED + PARTIAL if (module, name) not in of_check
     ]
 
 
@@ -169,18 +178,31 @@ def misplaced(listed, before, lines, needs):
     return wrong
 
 
+def files_in(page, head):
+    """The files of specs/ that a part of the page lists, by links or by crate."""
+    part = page.partition("\n## %s\n" % head)[2].partition("\n## ")[0]
+    by_crate = re.findall(r"(?m)^\| `(lnt_\w+)` \| (.*) \|$", part)
+    names = ["crates/%s/specs/%s.antt" % (crate, name) for crate, listed in by_crate for name in listed.split(", ")]
+    return re.findall(r"\]\(\.\./(crates/\w+/specs/[\w/]+\.antt)\)", part) + names
+
+
 def main():
     lines, needs, _ = closure(CHECK)
-    of_yes, _, _ = closure(YES)
     of_upgrade, upgrade_needs, _ = closure(UPGRADE)
+    of_all, all_needs, _ = closure(ALL)
+    of_contract, contract_needs, _ = closure(contract())
     with open(os.path.join(TOP, "docs", "TRUSTED.md"), encoding="utf-8") as file:
         page = file.read()
-    parts = page.partition("\n## The contract\n")[0], page.partition("\n## `upgrade`\n")[2].partition("\n## ")[0]
-    listed, added = [re.findall(r"\]\(\.\./(crates/\w+/specs/[\w/]+\.antt)\)", part) for part in parts]
-    passed = sum(listed.count(name) == 1 for name in lines) + sum(added.count(name) == 1 for name in of_upgrade)
-    wrong = leads() + misplaced(listed, [], lines, needs) + misplaced(added, listed, of_upgrade, upgrade_needs)
-    wrong += said(page, COUNTS, lines) + said(page, COUNTS_OF_YES, of_yes)
-    wrong += said(page, COUNTS_OF_UPGRADE, of_upgrade, len(of_upgrade.keys() - lines.keys()))
+    listed, of_places, added, others = [files_in(page, head) for head in ("The definitions", "`check --all`", "`upgrade`", "The command")]
+    above = listed + of_places + added
+    passed = sum((above + others).count(name) == 1 for name in of_contract)
+    wrong = leads() + misplaced(listed, [], lines, needs) + misplaced(of_places, listed, of_all, all_needs)
+    wrong += misplaced(added, listed + of_places, of_upgrade, upgrade_needs) + misplaced(others, above, of_contract, contract_needs)
+    wrong += said(page, COUNTS, lines) + said(page, COUNTS_OF_CONTRACT, of_contract)
+    for pattern, starts in ((COUNTS_OF_YES, YES), (COUNTS_OF_PRINTED, YES + PRINTED), (COUNTS_OF_PARTIAL, YES + PARTIAL)):
+        wrong += said(page, pattern, closure(starts)[0])
+    wrong += said(page, COUNTS_OF_ALL, of_all, len(of_all.keys() - lines.keys()))
+    wrong += said(page, COUNTS_OF_UPGRADE, of_upgrade, len(of_upgrade.keys() - lines.keys() - of_all.keys()))
     described, unsaid = undescribed()
     for text in ["docs/TRUSTED.md: " + text for text in wrong] + unsaid:
         print("failed: " + text)

@@ -3,7 +3,7 @@ ghost use Rattle.std.specs.Prelude.{◌≡◌};
 ghost use Rattle.std.specs.Process.{exit_status};
 ghost use Rattle.linetab.specs.Exits.{status_of};
 
-use lnt_cli::{CliStop, FileStop, Status};
+use lnt_cli::{CliStop, Status};
 use std::process::ExitCode;
 
 /// The exit status of a run. 0: all was done, or the answer is yes. 1: the answer is no. 2: the words aren't a valid request.
@@ -15,7 +15,7 @@ pub(crate) fn exit_code(ended: &Result<Status, CliStop>) -> ExitCode
         Ok(Status::Done) => 0,
         Ok(Status::No) => 1,
         Err(CliStop::Usage(_)) => 2,
-        Err(CliStop::File(FileStop::Read(_) | FileStop::TooLong(_) | FileStop::Write)) => 3,
-        Err(CliStop::File(FileStop::Memory)) => 4,
+        Err(CliStop::Read(_) | CliStop::TooLong(_) | CliStop::Write) => 3,
+        Err(CliStop::Memory) => 4,
     })
 }

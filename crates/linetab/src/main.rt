@@ -6,7 +6,7 @@ mod output;
 mod system;
 
 use exit::exit_code;
-use lnt_cli::{CliStop, FileStop, Status, run};
+use lnt_cli::{CliStop, Status, run_with_notes};
 use output::Output;
 use std::alloc::{AllocError, Global};
 use std::cell::Cell;
@@ -21,7 +21,7 @@ fn main(rt: HostRuntime) -> ExitCode {
     let is_unread = Cell::new(false);
     let ended = run_words(&rt, &is_unread, &mut notes);
     // Whoever closed the pipe wants nothing more from it.
-    if !(is_unread.get() && matches!(&ended, Err(CliStop::File(FileStop::Write)))) {
+    if !(is_unread.get() && matches!(&ended, Err(CliStop::Write))) {
         report(&rt, &ended, &notes);
     }
     exit_code(&ended)
@@ -33,7 +33,7 @@ fn report(rt: &HostRuntime, ended: &Result<Status, CliStop>, notes: &[u8]) {
         let _ = match stop {
             // A usage text already ends in a line feed.
             CliStop::Usage(text) => rt.eprint(text),
-            CliStop::File(stop) => rt.eprintln(stop),
+            _ => rt.eprintln(stop),
         };
     }
     let _ = rt.stderr().write_all(whole_lines(notes));
@@ -56,10 +56,10 @@ fn run_words(
         return Err(CliStop::from(AllocError));
     };
     let reason = Cell::new(None);
-    let ended = run(alloc, words, &mut System::new(rt, &reason), &mut out, notes);
+    let ended = run_with_notes(alloc, words, &mut System::new(rt, &reason), &mut out, notes);
     let flushed = out.flush();
     if ended.is_ok() && flushed.is_err() {
-        return Err(CliStop::File(FileStop::Write));
+        return Err(CliStop::Write);
     }
     ended
 }

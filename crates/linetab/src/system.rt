@@ -1,5 +1,5 @@
 //! The files and the standard input of the process.
-use lnt_io::{OpenedFile, Opener};
+use lnt_io::Opener;
 use std::alloc::Global;
 use std::cell::Cell;
 use std::fs::{self, File};
@@ -89,8 +89,6 @@ impl<'a> Opener for System<'a> {
         self.took_standard = true;
         Some(self.reader(Input::Standard(self.rt.stdin())))
     }
-
-    fn could_not_read<'n>(&mut self, _file: &OpenedFile<'n, Reader<'a>>) {}
 
     // A pipe that was read has nothing left, and opening one again might wait for ever.
     fn reader_again(&self, name: &str) -> Option<Reader<'a>> {

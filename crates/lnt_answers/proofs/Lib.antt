@@ -10,6 +10,7 @@ pub mod PathStretchLemmas
 pub mod PathTableLemmas
 pub mod RoomLaws
 pub mod ScopeLemmas
+pub mod ShareLemmas
 pub mod StretchLemmas
 pub mod SumPrefixes
 pub mod SumLaws

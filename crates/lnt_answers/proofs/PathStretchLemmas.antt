@@ -2,8 +2,7 @@
 use Rattle.std.proofs.Common.{◌≡◌, ◌∙◌, Bool, ℕ, List, [], map, Option, Some, None, IfSome, is_some, refl, subst, option_map}
 use Rattle.lnt_spans.specs.declared.position.Position.{Position}
 use Rattle.lnt_spans.specs.declared.span.Span.{Span}
-use Rattle.lnt_spans.specs.Partial.{addresses_answered}
-use Rattle.lnt_sequences.specs.Sequences.{line_answer, Selection}
+use Rattle.lnt_sequences.specs.Sequences.{Selection}
 use Rattle.lnt_lines.specs.Indexed.{Indexed}
 use Rattle.lnt_records.specs.Faults.{IsUnnumbered}
 use Rattle.lnt_compare.specs.declared.by_path.answer.AnswerByPath.{AnswerByPath}
@@ -12,12 +11,11 @@ use Rattle.lnt_compare.specs.declared.by_path.held.HeldSpan.{HeldSpan}
 use Rattle.lnt_compare.specs.declared.by_path.stretches.DifferencesByPath.{DifferencesByPath}
 use Rattle.lnt_records.specs.declared.by_path.version.PathVersion.{PathVersion}
 use Rattle.lnt_compare.specs.Held.{held_span}
-use Rattle.lnt_records.specs.PathSpans.{PathAnswer, path_answer, StandInOrder, path_span_answer}
+use Rattle.lnt_records.specs.PathSpans.{PathAnswer, StandInOrder, path_span_answer}
 use Rattle.lnt_compare.specs.PathStretches.{stretch_of, told_path_answer}
 use Rattle.lnt_records.specs.PathTables.{IsPathTableOf}
 use Rattle.lnt_compare.specs.Differing.{HasFoundStretchesByPath}
-use Rattle.lnt_table.specs.Headline.{indexed_path, path_at, told_path}
-use Rattle.lnt_table.proofs.CheckLemmas.{told_addresses}
+use Rattle.lnt_table.specs.Headline.{indexed_path, told_path}
 use Rattle.lnt_answers.specs.Stretches.{IsSoByPath}
 
 -- whether the table answers there, as its answer is held
@@ -29,11 +27,11 @@ answered_so difference is_answered same = same ∙ by_answer difference.by_table
     by_answer None = refl
     by_answer (Some told) = refl
 
--- It holds of whatever two answers the differences are, if the section's are as many as those of the rows.
-abbrev pub ForPathDifferences : {S : Type 0} → (S → List Span → Type 0) → (ℕ → ℕ → List ℕ) → DifferencesByPath S → ℕ
+-- It holds of whatever two answers the differences are.
+abbrev pub ForPathDifferences : {S : Type 0} → (S → List Span → Type 0) → (ℕ → ℕ → List ℕ) → DifferencesByPath S
     → ((Position → Option PathAnswer) → (Position → Option PathAnswer) → Type 0) → Type 0
-ForPathDifferences to_come path differences all IsSo =
-    (f g : Position → Option PathAnswer) → HasFoundStretchesByPath to_come path differences f g [] → all ≡ addresses_answered f → IsSo f g
+ForPathDifferences to_come path differences IsSo =
+    (f g : Position → Option PathAnswer) → HasFoundStretchesByPath to_come path differences f g [] → IsSo f g
 
 -- No stretch was given yet, of a table with these spans.
 abbrev pub HasStarted : {S : Type 0} → (S → List Span → Type 0) → Indexed → DifferencesByPath S → PathVersion → Selection
@@ -48,15 +46,14 @@ pub for_path_units : {S : Type 0} (to_come : S → List Span → Type 0) (index 
     (table : Option (List ℕ)) (IsSo : (Position → Option PathAnswer) → (Position → Option PathAnswer) → Type 0) → slice ≡ spans
     → path ≡ indexed_path index → IfSome table (λ text. IsUnnumbered text × IsPathTableOf version text (map held_span spans))
     → StandInOrder (map held_span spans) → HasStarted to_come index differences version selection slice
-    → ForPathDifferences to_come path differences (addresses_answered (line_answer selection)) IsSo
+    → ForPathDifferences to_come path differences IsSo
     → IfSome table (λ text. IsSoByPath index selection text IsSo)
 for_path_units to_come index path differences version spans slice selection None IsSo same by is order started p = tt
 for_path_units to_come index path differences version spans slice selection (Some text) IsSo same by is order started p = record {
   version = version;
   table = map held_span spans;
   is_table = is.1;
-  so = subst (λ (q : ℕ → ℕ → List ℕ). ForPathDifferences to_come q differences (addresses_answered (line_answer selection)) IsSo) by
+  so = subst (λ (q : ℕ → ℕ → List ℕ). ForPathDifferences to_come q differences IsSo) by
       p (told_path version index selection) (path_span_answer (map held_span spans))
-      (subst (HasStarted to_come index differences version selection) same started order)
-      (told_addresses (path_answer version (path_at index.line index.general selection.units)) (line_answer selection));
+      (subst (HasStarted to_come index differences version selection) same started order);
 }

@@ -1,11 +1,13 @@
 -- What is printed if all positions in a scope are reported at which a table and a good section answer differently.
-use Rattle.std.specs.Prelude.{◌≡◌, ℕ, List, [], ◌∷◌, ◌++◌, Option, codes, flat_map, ◌≢◌, ◌⊎◌, IfSome}
+use Rattle.std.specs.Prelude.{◌≡◌, ◌≢◌, ◌⊎◌, ℕ, Bool, true, false, List, [], ◌∷◌, ◌++◌, map, flat_map, codes}
+use Rattle.std.specs.Prelude.{None, Option, IfSome, IsSomeAnd}
+use Rattle.std.specs.List.{AllByRecursion}
 use Rattle.std.specs.Io.KnownBytes.{Appends, Keeps}
 use Rattle.lnt_io.specs.declared.status.Status.{Status}
-use Rattle.lnt_io.specs.declared.status.Status.TheVariants.{Done, No}
+use Rattle.lnt_io.specs.declared.status.Status.TheVariants.{No}
 use Rattle.lnt_spans.specs.declared.answer.Answer.{Answer}
 use Rattle.lnt_spans.specs.declared.position.Position.{Position}
-use Rattle.lnt_spans.specs.AnyStretches.{AreAllStretches, Stretch}
+use Rattle.lnt_spans.specs.AnyStretches.{AreAllStretches, EndsAt, Stretch}
 use Rattle.lnt_spans.specs.Partial.{addresses_answered, AreAllMistakes, where_answered}
 use Rattle.lnt_records.specs.PathSpans.{PathAnswer, path_span_answer}
 use Rattle.lnt_table.specs.declared.kinds.OfKind.TheVariants.{Numbered}
@@ -15,8 +17,9 @@ use Rattle.lnt_table.specs.declared.within.CheckedWithin.TheVariants as within
 use Rattle.lnt_table.specs.declared.within.Scope.{Scope}
 use Rattle.lnt_table.specs.declared.within.Scope.TheVariants.{All, Answered}
 use Rattle.lnt_table.specs.FaultTexts.{path_stretch_text, table_no_text}
-use Rattle.lnt_text.specs.Texts.{difference_text}
-use Rattle.lnt_answers.specs.Verdicts.{checked_line}
+use Rattle.lnt_text.specs.Texts.{stretch_text}
+use Rattle.lnt_answers.specs.declared.report.Report.{Report}
+use Rattle.lnt_answers.specs.Verdicts.{checked_line, checked_status}
 use Rattle.lnt_io.specs.Prefixes.{HasBegun}
 use Rattle.lnt_spans.specs.Spans.{span_answer}
 use Rattle.lnt_sequences.specs.Sequences.{line_answer, Selection}
@@ -37,14 +40,30 @@ use Rattle.lnt_io.specs.declared.status.Status.TheVariants as ending
 
 -- ---- the line of a stretch
 
+-- a stretch, and the first position after it, if that is told
+pub record ToldStretch (X : Type 0) : Type 0 where
+  pub stretch : Stretch X
+  pub end : Option Position
+
+abbrev pub told_with : {X : Type 0} → Stretch X → Option Position → ToldStretch X
+told_with stretch end = record { stretch = stretch; end = end }
+
 -- of a table of version 1 or 2
-abbrev pub stretch_line : Stretch Answer → List ℕ
-stretch_line stretch =
-    difference_text (record { position = stretch.position; by_table = stretch.by_table; by_section = stretch.by_section }) ++ codes "\n"
+abbrev pub stretch_line : ToldStretch Answer → List ℕ
+stretch_line told = stretch_text (record {
+  position = told.stretch.position;
+  by_table = told.stretch.by_table;
+  by_section = told.stretch.by_section;
+}) told.end ++ codes "\n"
 
 -- of a table by path
-abbrev pub path_stretch_line : Stretch PathAnswer → List ℕ
-path_stretch_line stretch = path_stretch_text stretch ++ codes "\n"
+abbrev pub path_stretch_line : ToldStretch PathAnswer → List ℕ
+path_stretch_line told = path_stretch_text told.stretch told.end ++ codes "\n"
+
+-- The first position after the stretch is told exactly if ends are.
+abbrev pub IsEndTold : {X : Type 0} → Bool → (Position → Option X) → (Position → Option X) → ToldStretch X → Type 0
+IsEndTold false by_section by_table told = told.end ≡ None
+IsEndTold true by_section by_table told = IsSomeAnd told.end (EndsAt by_section by_table told.stretch)
 
 -- ---- all stretches in a scope
 
@@ -61,24 +80,26 @@ answer_if_none Answered by_section by_table =
     within.Covered (record { answered = addresses_answered (where_answered by_table by_section); all = addresses_answered by_section })
 
 -- a line for each stretch, or this text if there is none
-abbrev pub lines_or : {X : Type 0} → (Stretch X → List ℕ) → List ℕ → List (Stretch X) → List ℕ
+abbrev pub lines_or : {X : Type 0} → (X → List ℕ) → List ℕ → List X → List ℕ
 lines_or line none [] = none
 lines_or line none (first ∷ stretches) = flat_map line (first ∷ stretches)
 
--- the status after these stretches
-abbrev pub stretches_status : {X : Type 0} → List (Stretch X) → Status
-stretches_status [] = Done
-stretches_status (first ∷ stretches) = No
+-- the status after these stretches, or this one if there is none
+abbrev pub stretches_status : {X : Type 0} → Status → List X → Status
+stretches_status ended [] = ended
+stretches_status ended (first ∷ stretches) = No
 
 -- What was appended to a writer that held these bytes (old) is a line for each stretch in the scope, or the answer if there is none;
 -- and this is the status after them.
 --     line    the line of a stretch
-pub record AreStretchesPrinted {X : Type 0} (line : Stretch X → List ℕ) (scope : Scope) (by_section by_table : Position → Option X)
+pub record AreStretchesPrinted {X : Type 0} (line : ToldStretch X → List ℕ) (report : Report) (by_section by_table : Position → Option X)
     (old new : Option (List ℕ)) (status : Status) : Type 0 where
-  pub stretches : List (Stretch X)
-  pub are_all : AreAllIn scope by_section by_table stretches
-  pub printed : Appends old new (lines_or line (checked_line (answer_if_none scope by_section by_table)) stretches)
-  pub status_is : status ≡ stretches_status stretches
+  pub stretches : List (ToldStretch X)
+  pub are_all : AreAllIn report.scope by_section by_table (map (λ told. told.stretch) stretches)
+  pub ends : AllByRecursion (IsEndTold report.ends by_section by_table) stretches
+  pub printed : Appends old new
+      (lines_or line (checked_line report.at_least (answer_if_none report.scope by_section by_table)) stretches)
+  pub status_is : status ≡ stretches_status (checked_status report.at_least (answer_if_none report.scope by_section by_table)) stretches
 
 -- ---- what is printed
 
@@ -97,18 +118,18 @@ IsFaultByPath table found = IsUnnumbered table × IsPathFault table found
 
 -- What is reported is true of the bytes: the stretches in the scope at which the answers differ, or its first fault. Of bytes with the
 -- header of version 1 or 2 it is Faulty or Printed, of all others FaultyByPath or PrintedByPath.
-abbrev pub AreStretchesOf : Scope → Indexed → Selection → List ℕ → Option (List ℕ) → Option (List ℕ) → Stretches → Type 0
-AreStretchesOf scope index selection table old new (Faulty found) = IsFault table found × (found ≢ fault.Header)
-AreStretchesOf scope index selection table old new (Printed status) = IsSoOfRows selection table
-    (λ by_section by_table. AreStretchesPrinted stretch_line scope by_section by_table old new status)
-AreStretchesOf scope index selection table old new (FaultyByPath found) = IsFaultByPath table found
-AreStretchesOf scope index selection table old new (PrintedByPath status) = IsSoByPath index selection table
-    (λ by_section by_table. AreStretchesPrinted path_stretch_line scope by_section by_table old new status)
+abbrev pub AreStretchesOf : Report → Indexed → Selection → List ℕ → Option (List ℕ) → Option (List ℕ) → Stretches → Type 0
+AreStretchesOf report index selection table old new (Faulty found) = IsFault table found × (found ≢ fault.Header)
+AreStretchesOf report index selection table old new (Printed status) = IsSoOfRows selection table
+    (λ by_section by_table. AreStretchesPrinted stretch_line report by_section by_table old new status)
+AreStretchesOf report index selection table old new (FaultyByPath found) = IsFaultByPath table found
+AreStretchesOf report index selection table old new (PrintedByPath status) = IsSoByPath index selection table
+    (λ by_section by_table. AreStretchesPrinted path_stretch_line report by_section by_table old new status)
 
 -- it is true whatever the units are that the index was made of, where the table's bytes are known
-abbrev pub AreStretchesOfIndex : Scope → Indexed → Option (List ℕ) → Option (List ℕ) → Option (List ℕ) → Stretches → Type 0
-AreStretchesOfIndex scope index table old new found = OfUnits index (λ selection. IfSome table (λ text.
-    AreStretchesOf scope index selection text old new found))
+abbrev pub AreStretchesOfIndex : Report → Indexed → Option (List ℕ) → Option (List ℕ) → Option (List ℕ) → Stretches → Type 0
+AreStretchesOfIndex report index table old new found = OfUnits index (λ selection. IfSome table (λ text.
+    AreStretchesOf report index selection text old new found))
 
 -- What was appended to a writer that held these bytes is the line of what is wrong with the table, if something is.
 abbrev pub IsFaultPrinted : Stretches → Option (List ℕ) → Option (List ℕ) → Type 0
@@ -128,11 +149,11 @@ outcome_status (PrintedByPath status) = status
 --     old, new    what it holds before and afterwards
 
 -- What was written is a prefix of what might have been reported of the table.
-abbrev pub AreStretchesBegun : Scope → Indexed → Selection → List ℕ → Option (List ℕ) → Option (List ℕ) → Type 0
-AreStretchesBegun scope index selection table old new =
-    HasBegun (λ end found. AreStretchesOf scope index selection table old end found × IsFaultPrinted found old end) old new
+abbrev pub AreStretchesBegun : Report → Indexed → Selection → List ℕ → Option (List ℕ) → Option (List ℕ) → Type 0
+AreStretchesBegun report index selection table old new =
+    HasBegun (λ end found. AreStretchesOf report index selection table old end found × IsFaultPrinted found old end) old new
 
 -- it is, whatever the units are that the index was made of, where the table's bytes are known; or nothing was written
-abbrev pub BeginsStretches : Scope → Indexed → Option (List ℕ) → Option (List ℕ) → Option (List ℕ) → Type 0
-BeginsStretches scope index table old new = Keeps old new ⊎ OfUnits index (λ selection. IfSome table (λ text.
-    AreStretchesBegun scope index selection text old new))
+abbrev pub BeginsStretches : Report → Indexed → Option (List ℕ) → Option (List ℕ) → Option (List ℕ) → Type 0
+BeginsStretches report index table old new = Keeps old new ⊎ OfUnits index (λ selection. IfSome table (λ text.
+    AreStretchesBegun report index selection text old new))

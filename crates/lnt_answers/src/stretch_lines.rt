@@ -7,7 +7,7 @@ ghost use Rattle.lnt_io.specs.IoStops.{IsPrinting};
 
 use crate::display::put_text;
 use lnt_io::{IoStop, write_whole};
-use lnt_table::Scope;
+use lnt_table::{Coverage, Scope};
 use std::alloc::Global;
 use std::fmt;
 use std::io::Write;
@@ -60,11 +60,11 @@ impl StretchLines {
         Ok(())
     }
 
-    // The number of missed addresses, if no line was printed.
-    pub(crate) fn if_right(&self, missed: u128) -> Option<u128>
-        ensures { result ≡ cond self.now.is_right (Some missed) None }
+    // How much the table answers, if no line was printed.
+    pub(crate) fn if_right(&self, coverage: Coverage) -> Option<Coverage>
+        ensures { result ≡ cond self.now.is_right (Some coverage) None }
     {
-        if self.is_right { Some(missed) } else { None }
+        if self.is_right { Some(coverage) } else { None }
     }
 }
 

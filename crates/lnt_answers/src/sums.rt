@@ -11,7 +11,7 @@ ghost use Rattle.lnt_answers.specs.SumLines.{listed_files, listed_in};
 use crate::display::put_text;
 use crate::files::file_path;
 use crate::{Agreement, md5_agrees};
-use lnt_io::{IoStop, OpenedFile, Opener, Status, write_whole};
+use lnt_io::{Files, IoStop, OpenedFile, Status, write_whole};
 use lnt_lines::Index;
 use lnt_text::Quoted;
 use std::alloc::{AllocError, Global};
@@ -27,7 +27,7 @@ use std::str;
 /// Returns `Done` if all of them have their sums, and `No` if one has another sum or can't be read. Stops with `Write` if
 /// the writer failed, and with `Memory`. If it stops, a prefix of lines that are true of the files has been written, and
 /// nothing else. It doesn't stop for a file that can't be read.
-pub fn print_sums<O: Opener, W: Write>(
+pub fn print_sums<O: Files, W: Write>(
     alloc: Global,
     index: &Index<'_>,
     opener: &mut O,
@@ -49,7 +49,7 @@ pub fn print_sums<O: Opener, W: Write>(
 }
 
 // Prints the lines for the files of the unit at this offset that have a listed sum.
-fn print_unit_sums<O: Opener, W: Write>(
+fn print_unit_sums<O: Files, W: Write>(
     alloc: Global,
     index: &Index<'_>,
     unit: u64,
@@ -74,7 +74,7 @@ fn print_unit_sums<O: Opener, W: Write>(
 
 // Prints the line of a file of the unit, if a sum is listed for it. The line is made in `room` first, whose old contents are
 // dropped.
-fn print_sum<O: Opener, W: Write>(
+fn print_sum<O: Files, W: Write>(
     alloc: Global,
     index: &Index<'_>,
     unit: u64,
@@ -103,7 +103,7 @@ fn print_sum<O: Opener, W: Write>(
 }
 
 // Whether the file at the path has the sum. `None` if it can't be read.
-fn found_of<O: Opener>(path: &[u8], listed: &[u8; 16], opener: &mut O) -> Option<Agreement>
+fn found_of<O: Files>(path: &[u8], listed: &[u8; 16], opener: &mut O) -> Option<Agreement>
     ensures later { FindsNoMore (O.finds opener.old) (O.finds opener.new) }
     ensures found { IsTrueOfFile (O.finds opener.old) path.now listed.now result }
 {

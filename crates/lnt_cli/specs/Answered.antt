@@ -62,15 +62,16 @@ IsOfFile finds from file IsSo = IsOfBytes finds file (λ bytes. IsOfSection find
 -- ---- sections that are compared with a table
 
 -- The check's answer is true of the section and of the table (text), of any version, at the positions of the scope; it was written, and
--- nothing else, and the run ends with its status. What it says of the section is true even if nothing is known of the table's bytes.
-pub record IsChecked (from : Judging) (scope : Scope) (old new : Option (List ℕ)) (status : Status) (text : Option (List ℕ))
+-- nothing else, and the run ends with its status. A table that is right wherever it answers has to answer at this percentage of the
+-- section's addresses (at_least). What it says of the section is true even if nothing is known of the table's bytes.
+pub record IsChecked (from : Judging) (scope : Scope) (at_least : ℕ) (old new : Option (List ℕ)) (status : Status) (text : Option (List ℕ))
     (line general : List ℕ) (section : Option (List ℕ)) : Type 0 where
   pub checked : CheckedWithin
   pub is_true : IfSome section (λ bytes. IfSome text (λ table. IsTrueWithin scope line general (options_in from) bytes table checked))
   pub is_true_of_section : IfSome section (λ bytes. IsTrueOfSectionWithin line general (options_in from) bytes checked)
   pub of_scope : IsOfScope checked scope
-  pub printed : Appends old new (checked_line checked)
-  pub status_is : status ≡ checked_status checked
+  pub printed : Appends old new (checked_line at_least checked)
+  pub status_is : status ≡ checked_status at_least checked
 
 -- ---- sections that are judged
 
@@ -92,8 +93,8 @@ AnswersQuestion finds from question old new status =
 -- is judged says of the file.
 abbrev pub AnswersFile : (List ℕ → FileState → Type 0) → Judging → List ℕ → FileQuestion → Option (List ℕ) → Option (List ℕ) → Status
     → Type 0
-AnswersFile finds from file (Check false partial) old new status =
-    IsOfFile finds from file (IsChecked from (scope_in partial) old new status)
+AnswersFile finds from file (Check false ends partial at_least) old new status =
+    IsOfFile finds from file (IsChecked from (scope_in partial) at_least old new status)
 AnswersFile finds from file question old new status =
     IsOfFile finds from file (λ bytes. IsJudgedSo from (AnswersJudged (AnswersGoodFile question bytes) old new status))
 

@@ -1,7 +1,7 @@
 -- The answer to a question about a section that was judged, alone or with another file, and its prefixes.
 --     tells       what the opener may say of the file with a name
 --     old, new    what the writer of the answer holds before and afterwards
-use Rattle.std.specs.Prelude.{ℕ, List, Option, IfSome, ◌≡◌, ◌++◌, true, false, codes, flat_map}
+use Rattle.std.specs.Prelude.{ℕ, Bool, List, Option, IfSome, ◌≡◌, ◌++◌, true, false, codes, flat_map}
 use Rattle.lnt_io.specs.Prefixes.{HasBegun, AppendsPrefix}
 use Rattle.lnt_io.specs.declared.status.Status.{Status}
 use Rattle.lnt_wire.specs.declared.format.Order.{Order}
@@ -24,7 +24,7 @@ use Rattle.lnt_words.specs.declared.request.Question.{Question}
 use Rattle.lnt_words.specs.declared.request.Question.TheVariants.{Verify, Lookup, Files, Table, TableByPath, Md5}
 use Rattle.lnt_records.specs.declared.by_path.version.PathVersion.{PathVersion}
 use Rattle.lnt_records.specs.declared.by_path.version.PathVersion.TheVariants.{Three, Four}
-use Rattle.lnt_table.specs.declared.within.Scope.{Scope}
+use Rattle.lnt_answers.specs.declared.report.Report.{Report}
 use Rattle.lnt_table.specs.AnyVersion.{scope_in}
 use Rattle.lnt_table.specs.Headline.{told_path}
 use Rattle.lnt_table.specs.Written.{BeginsTableOfUnits, IsTableOfUnits}
@@ -84,18 +84,23 @@ AnswersGood finds (TableByPath true) index old new status = IsPathTablePrinted T
 AnswersGood finds (TableByPath false) index old new status = IsPathTablePrinted Four index old new status
 AnswersGood finds Md5 index old new status = AreSumsPrinted finds index (listed_files index) old new status
 
+-- how a comparison at all positions is told
+abbrev pub report_in : Bool → Bool → ℕ → Report
+report_in ends partial at_least = record { scope = scope_in partial; ends = ends; at_least = at_least }
+
 -- What is written for a good section with this index and a table: the table's first fault, or all places in the scope where the two
 -- differ.
-pub record AreTableStretchesPrinted (scope : Scope) (index : Indexed) (table old new : Option (List ℕ)) (status : Status) : Type 0 where
+pub record AreTableStretchesPrinted (report : Report) (index : Indexed) (table old new : Option (List ℕ)) (status : Status) : Type 0 where
   pub found : Stretches
   pub fault : IsFaultPrinted found old new
   pub status_is : status ≡ outcome_status found
-  pub so : AreStretchesOfIndex scope index table old new found
+  pub so : AreStretchesOfIndex report index table old new found
 
 -- The answer for a good section with this index and another file, of these bytes.
 abbrev pub AnswersGoodFile : FileQuestion → Option (List ℕ) → Indexed → Option (List ℕ) → Option (List ℕ) → Status → Type 0
 AnswersGoodFile (Lines op) bytes index old new status = AreAddressesPrinted index op bytes old new status
-AnswersGoodFile (Check all partial) bytes index old new status = AreTableStretchesPrinted (scope_in partial) index bytes old new status
+AnswersGoodFile (Check all ends partial at_least) bytes index old new status =
+    AreTableStretchesPrinted (report_in ends partial at_least) index bytes old new status
 
 -- The answer for a section with this judgement: for a good one this, and for another the line that says why it isn't good.
 abbrev pub AnswersJudged : (Indexed → Option (List ℕ) → Option (List ℕ) → Status → Type 0) → Option (List ℕ) → Option (List ℕ) → Status
@@ -125,8 +130,8 @@ BeginsGood finds (TableByPath false) index old new = BeginsPathTableText Four in
 -- those of that file.
 abbrev pub BeginsGoodFile : FileQuestion → Option (List ℕ) → Indexed → Option (List ℕ) → Option (List ℕ) → Type 0
 BeginsGoodFile (Lines op) bytes index old new = AreAddressesBegun index op bytes old new
-BeginsGoodFile (Check all partial) bytes index old new = OfUnits index (λ selection. IfSome bytes
-    (λ text. AreStretchesBegun (scope_in partial) index selection text old new))
+BeginsGoodFile (Check all ends partial at_least) bytes index old new = OfUnits index (λ selection. IfSome bytes
+    (λ text. AreStretchesBegun (report_in ends partial at_least) index selection text old new))
 
 -- A prefix of the answer for a section with this judgement.
 abbrev pub BeginsJudged : (Indexed → Option (List ℕ) → Option (List ℕ) → Type 0) → Option (List ℕ) → Option (List ℕ) → JudgedIndex

@@ -14,7 +14,7 @@ use Rattle.lnt_words.specs.declared.request.Upgrading.{Upgrading}
 use Rattle.lnt_words.specs.declared.stop.WordsStop.{WordsStop}
 use Rattle.lnt_words.specs.declared.stop.WordsStop.TheVariants as words
 use Rattle.lnt_cli.specs.declared.stop.CliStop.{CliStop}
-use Rattle.lnt_cli.specs.declared.stop.CliStop.TheVariants.{File, Usage}
+use Rattle.lnt_cli.specs.declared.stop.CliStop.TheVariants as run
 use Rattle.lnt_cli.specs.declared.stop.FileStop.{FileStop}
 use Rattle.lnt_cli.specs.declared.stop.FileStop.TheVariants.{Read, TooLong, Write, Memory}
 use Rattle.std.specs.Io.KnownBytes.{Keeps}
@@ -30,8 +30,15 @@ use Rattle.lnt_cli.specs.Questions.{BeginsGood, BeginsGoodFile, BeginsJudged, Be
 
 -- how a run stops whose words aren't a request
 abbrev pub IsOfWords : WordsStop → CliStop → Type 0
-IsOfWords stop (Usage text) = stop ≢ words.Memory
-IsOfWords stop (File found) = found ≡ Memory
+IsOfWords stop (run.Usage text) = stop ≢ words.Memory
+IsOfWords stop found = found ≡ run.Memory
+
+-- how a run stops whose answer was stopped so
+abbrev pub run_stop : FileStop → CliStop
+run_stop (Read name) = run.Read name
+run_stop (TooLong name) = run.TooLong name
+run_stop Write = run.Write
+run_stop Memory = run.Memory
 
 -- the file with this name can't be read, or is too long
 abbrev pub NamesFile : FileStop → List ℕ → Type 0
@@ -116,14 +123,15 @@ BeginsQuestion finds from question old new =
     IsOfSection finds from (IsJudgedSo from (BeginsJudged (BeginsGood finds question) old new))
 
 -- a prefix of the answer to a check, of a table with these bytes (text)
-abbrev pub BeginsChecked : Judging → Scope → Option (List ℕ) → Option (List ℕ) → Option (List ℕ) → List ℕ → List ℕ → Option (List ℕ)
+abbrev pub BeginsChecked : Judging → Scope → ℕ → Option (List ℕ) → Option (List ℕ) → Option (List ℕ) → List ℕ → List ℕ → Option (List ℕ)
     → Type 0
-BeginsChecked from scope old new text line general section =
-    HasBegun (λ end status. IsChecked from scope old end status text line general section) old new
+BeginsChecked from scope at_least old new text line general section =
+    HasBegun (λ end status. IsChecked from scope at_least old end status text line general section) old new
 
 -- A prefix of the answer to the question about the section and the file with this name was written.
 abbrev pub BeginsFile : (List ℕ → FileState → Type 0) → Judging → List ℕ → FileQuestion → Option (List ℕ) → Option (List ℕ) → Type 0
-BeginsFile finds from file (Check false partial) old new = IsOfFile finds from file (BeginsChecked from (scope_in partial) old new)
+BeginsFile finds from file (Check false ends partial at_least) old new =
+    IsOfFile finds from file (BeginsChecked from (scope_in partial) at_least old new)
 BeginsFile finds from file question old new =
     IsOfFile finds from file (λ bytes. IsJudgedSo from (BeginsJudged (BeginsGoodFile question bytes) old new))
 

@@ -9,19 +9,21 @@ use crate::inputs::{Opened, of_file};
 use crate::notes::Answered;
 use crate::question::options_of;
 use crate::stop::FileStop;
+use lnt_answers::CheckLine;
 use lnt_io::{IoStop, Source, Stop, print_line};
 use lnt_table::{CheckedWithin, Scope, check_within};
 use lnt_words::Judging;
 use std::alloc::Global;
 use std::io::Write;
 
-// Answers whether the table in the file with this name answers as the section does, at the positions of this scope. The files are
-// open.
+// Answers whether the table in the file with this name answers as the section does, at the positions of this scope, and at this
+// percentage of the section's addresses, if that is asked for. The files are open.
 pub(crate) fn check_table<'t, S: Source, F: Source, W: Write>(
     alloc: Global,
     from: &Judging<'_>,
     table: &'t str,
     scope: Scope,
+    at_least: u64,
     files: &mut Opened<S>,
     other: &mut F,
     out: &mut W,
@@ -29,17 +31,17 @@ pub(crate) fn check_table<'t, S: Source, F: Source, W: Write>(
     requires section { S.failures files.old.section ≡ 0 }
     requires table { F.failures other.old ≡ 0 }
     ensures named { IfErr result (NamesOneOf (IsFileOfBoth from.now table.now)) }
-    ensures answer { IfOk result (λ answered. IsChecked from.now scope (W.contents out.old) (W.contents out.new) answered.status
+    ensures answer { IfOk result (λ answered. IsChecked from.now scope at_least (W.contents out.old) (W.contents out.new) answered.status
         (F.remaining other.old) files.old.texts.line.items files.old.texts.general.items (S.remaining files.old.section)) }
     ensures stopped { OnErr result (Keeps (W.contents out.old) (W.contents out.new)
-        ⊎ BeginsChecked from.now scope (W.contents out.old) (W.contents out.new)
+        ⊎ BeginsChecked from.now scope at_least (W.contents out.old) (W.contents out.new)
         (F.remaining other.old) files.old.texts.line.items files.old.texts.general.items (S.remaining files.old.section)) }
 {
     let checked = judge_table(alloc, from, table, scope, files, other)?;
     let name = String::from_str(alloc, table)?;
-    let printed = print_line(alloc, &checked, out);
+    let printed = print_line(alloc, &CheckLine(&checked, at_least), out);
     of_file(name, printed)?;
-    Ok(Answered::of_check(&checked, table))
+    Ok(Answered::of_check(&checked, at_least, table))
 }
 
 // Judges whether the table in the file with this name, of any version, answers as the section does, at the positions of this scope.

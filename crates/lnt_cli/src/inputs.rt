@@ -5,7 +5,7 @@ ghost use Rattle.lnt_cli.specs.Answered.{AreStringsOf, AreTextsOf, IsTextOf};
 ghost use Rattle.lnt_cli.specs.Stops.{IsFileOf, IsFileStop, NamesOneOf, StopsIfRefused};
 
 use crate::stop::FileStop;
-use lnt_io::{Counted, IoStop, Opener, Source, bytes_of_file, open_file, read_all, source_of};
+use lnt_io::{Counted, Files, IoStop, Source, bytes_of_file, open_file, read_all, source_of};
 use lnt_notes::{Seen, WatchedReader};
 use lnt_wire::Strings;
 use lnt_words::Judging;
@@ -53,7 +53,7 @@ pub(crate) fn of_file<T>(name: String, ended: Result<T, IoStop>) -> Result<T, Fi
 }
 
 // Opens the section in the file with this name. `seen` keeps what notes need of its bytes.
-pub(crate) fn open_section<'c, O: Opener>(
+pub(crate) fn open_section<'c, O: Files>(
     alloc: Global,
     opener: &mut O,
     name: &str,
@@ -78,7 +78,7 @@ pub(crate) struct Opened<S> {
 }
 
 // Reads the string files of the section that is to be judged, whole, and opens the section.
-pub(crate) fn open_judged<'c, O: Opener>(
+pub(crate) fn open_judged<'c, O: Files>(
     alloc: Global,
     opener: &mut O,
     from: &Judging<'_>,
@@ -103,7 +103,7 @@ pub(crate) fn open_judged<'c, O: Opener>(
 }
 
 // Opens the file with this name.
-pub(crate) fn open_other<O: Opener>(
+pub(crate) fn open_other<O: Files>(
     alloc: Global,
     opener: &mut O,
     file: &str,
@@ -120,7 +120,7 @@ pub(crate) fn open_other<O: Opener>(
 }
 
 // All bytes of the section in the file with this name. `seen` keeps what notes need of them.
-pub(crate) fn read_whole<O: Opener>(
+pub(crate) fn read_whole<O: Files>(
     alloc: Global,
     opener: &mut O,
     name: &str,
@@ -135,7 +135,7 @@ pub(crate) fn read_whole<O: Opener>(
 }
 
 // All bytes of the file with this name, if one is named.
-pub(crate) fn read_named<O: Opener>(
+pub(crate) fn read_named<O: Files>(
     alloc: Global,
     opener: &mut O,
     file: Option<&str>,
@@ -152,7 +152,7 @@ pub(crate) fn read_named<O: Opener>(
 }
 
 // All bytes of the file with this name; empty without a name.
-fn read_strings<O: Opener>(
+fn read_strings<O: Files>(
     alloc: Global,
     opener: &mut O,
     file: Option<&str>,
@@ -169,7 +169,7 @@ fn read_strings<O: Opener>(
 }
 
 // All bytes of the file with this name.
-fn read_file<O: Opener>(alloc: Global, opener: &mut O, name: &str) -> Result<Vec<u8>, FileStop>
+fn read_file<O: Files>(alloc: Global, opener: &mut O, name: &str) -> Result<Vec<u8>, FileStop>
     ensures named { IfErr result (NamesOneOf (λ other. name.now ≡ other)) }
     ensures bytes { IfOk result (λ bytes. AreBytesOf (O.finds opener.old name.now) bytes.items) }
     ensures later { FindsNoMore (O.finds opener.old) (O.finds opener.new) }

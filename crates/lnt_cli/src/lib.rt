@@ -2,7 +2,7 @@
 //! they name, and writes the answer to one writer and advice to the other. It doesn't call the system: a program hands it an
 //! [`Opener`] and the writers.
 //!
-//! Start with [`run`], or with [`answer`] for a request that was read already.
+//! Start with [`run`], with [`run_with_notes`], or with [`answer`] for a request that was read already.
 #![tactic(auto)]
 
 mod check;
@@ -14,12 +14,20 @@ mod reading;
 mod stop;
 
 // Running the command.
-pub use lnt_words::{Asked, WordsStop};
-pub use program::{answer, run};
-pub use stop::{CliStop, FileStop};
+pub use program::{run, run_with_notes};
+pub use stop::CliStop;
+
+// What words ask for, and its answer.
+pub use lnt_text::{Argument, Shown};
+pub use lnt_words::{
+    AddressSize, Asked, FileQuestion, Judging, Question, Reading, Request, Upgrading, WordsStop,
+    request_of,
+};
+pub use program::answer;
+pub use stop::FileStop;
 
 // Files by their names, and how a run ends.
-pub use lnt_io::{IoStop, Opener, Status};
+pub use lnt_io::{Files, IoStop, OpenedFile, Opener, Status};
 
 // MD5 sums.
 pub use lnt_answers::{Agreement, md5_agrees, sum_of};

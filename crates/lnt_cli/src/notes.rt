@@ -4,16 +4,16 @@ ghost use Rattle.lnt_answers.specs.Stretches.{outcome_status};
 ghost use Rattle.lnt_answers.specs.Verdicts.{checked_status};
 
 use crate::stop::FileStop;
-use lnt_answers::Stretches;
+use lnt_answers::{Stretches, status_of};
 use lnt_compare::Compared;
-use lnt_io::{Opener, Status};
+use lnt_io::{Files, Status};
 use lnt_lines::No;
 use lnt_notes::{
     Columns, Given, Hints, Seen, note_agreed, note_bad, note_good, note_refused, note_table,
     print_note,
 };
 use lnt_records::TableFault;
-use lnt_table::{CheckedWithin, OfKind, TableNo, Verdict};
+use lnt_table::{CheckedWithin, OfKind, Scope, TableNo, Verdict};
 use lnt_text::Note;
 use lnt_words::{Judging, Request, Upgrading, WordsStop};
 use std::alloc::Global;
@@ -30,6 +30,8 @@ pub(crate) enum Occasion<'t> {
     Bad(No),
     // The table in the file with this name was compared with the section.
     Compared(&'t str),
+    // The table answers a part, and was compared there.
+    Part,
     // The table in the file with this name has this fault, by these columns.
     Faulty(&'t str, TableFault, Columns),
 }
@@ -63,15 +65,19 @@ impl<'t> Answered<'t> {
     }
 
     // What is answered to the check of the table in the file with this name.
-    pub(crate) fn of_check(checked: &CheckedWithin, table: &'t str) -> Answered<'t>
-        ensures { result.status ≡ checked_status checked.now }
+    pub(crate) fn of_check(checked: &CheckedWithin, at_least: u64, table: &'t str) -> Answered<'t>
+        ensures { result.status ≡ checked_status at_least checked.now }
     {
         match checked {
+            CheckedWithin::Covered(coverage) if coverage.all > 0 => Answered {
+                status: status_of(checked, at_least),
+                occasion: Occasion::Part,
+            },
             CheckedWithin::Covered(_)
             | CheckedWithin::Checked(
                 OfKind::Numbered(Verdict::Yes) | OfKind::ByPath(Compared::Same),
             ) => Answered {
-                status: Status::Done,
+                status: status_of(checked, at_least),
                 occasion: Occasion::Compared(table),
             },
             CheckedWithin::Checked(OfKind::Numbered(Verdict::No(TableNo::Section(no)))) => {
@@ -92,8 +98,9 @@ impl<'t> Answered<'t> {
         }
     }
 
-    // What is answered if this was printed about a good section and the table in the file with this name.
-    pub(crate) fn of_stretches(told: &Stretches, table: &'t str) -> Answered<'t>
+    // What is answered if this was printed about a good section and the table in the file with this name, compared at the positions
+    // of this scope.
+    pub(crate) fn of_stretches(told: &Stretches, table: &'t str, scope: Scope) -> Answered<'t>
         ensures { result.status ≡ outcome_status told.now }
     {
         match told {
@@ -105,7 +112,10 @@ impl<'t> Answered<'t> {
             }
             Stretches::Printed(status) | Stretches::PrintedByPath(status) => Answered {
                 status: *status,
-                occasion: Occasion::Compared(table),
+                occasion: match scope {
+                    Scope::All => Occasion::Compared(table),
+                    Scope::Answered => Occasion::Part,
+                },
             },
         }
     }
@@ -125,7 +135,7 @@ fn given_of<'a>(from: &Judging<'a>) -> Given<'a> {
 
 // Writes the notes to a request that ended so: to its answer, or why the system couldn't open or read the file that stopped
 // it. A failure to write one doesn't stop a run.
-pub(crate) fn print_notes<O: Opener, N: Write>(
+pub(crate) fn print_notes<O: Files, N: Write>(
     alloc: Global,
     request: &Request<'_>,
     ended: &Result<Answered<'_>, FileStop>,
@@ -144,7 +154,7 @@ pub(crate) fn print_notes<O: Opener, N: Write>(
     }
 }
 
-fn note_answer<O: Opener, N: Write>(
+fn note_answer<O: Files, N: Write>(
     alloc: Global,
     request: &Request<'_>,
     answered: &Answered<'_>,
@@ -166,9 +176,12 @@ fn note_answer<O: Opener, N: Write>(
         Occasion::Good(hints) => note_good(alloc, &hints, &given, opener, notes),
         Occasion::Bad(no) => note_bad(alloc, &no, seen, &given, opener, notes),
         Occasion::Compared(table) if answered.status == Status::Done => {
-            note_agreed(alloc, &given, table, opener, notes)
+            note_agreed(alloc, &given, Some(table), opener, notes)
         }
-        Occasion::Compared(_) | Occasion::Plain => Ok(()),
+        Occasion::Part if answered.status == Status::Done => {
+            note_agreed(alloc, &given, None, opener, notes)
+        }
+        Occasion::Compared(_) | Occasion::Part | Occasion::Plain => Ok(()),
         Occasion::Faulty(table, fault, columns) => {
             note_table(alloc, fault, columns, table, opener, notes)
         }

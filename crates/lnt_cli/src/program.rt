@@ -9,12 +9,29 @@ use crate::notes::{Answered, note_word, print_notes};
 use crate::question::{answer_file, answer_question};
 use crate::reading::{read_section, upgrade_section};
 use crate::stop::{CliStop, FileStop};
-use lnt_io::{Opener, Status, write_whole};
+use lnt_io::{Files, Status, write_whole};
 use lnt_notes::Seen;
 use lnt_words::{Asked, Request, request_of};
 use std::alloc::Global;
 use std::cell::Cell;
-use std::io::Write;
+use std::io::{self, Write};
+
+/// Runs the command that the words give, and writes its answer to `out`, as [`run_with_notes`]. Its notes are dropped.
+pub fn run<O: Files, W: Write>(
+    alloc: Global,
+    words: Vec<String>,
+    opener: &mut O,
+    out: &mut W,
+) -> Result<Status, CliStop>
+    ensures answer { IfOk result (AnswersWords (O.finds opener.old) (map string_bytes words.items)
+        (W.contents out.old) (W.contents out.new)) }
+    ensures stop { IfErr result (IsStopOf (O.finds opener.old) (map string_bytes words.items)
+        (W.contents out.old) (W.contents out.new)) }
+    ensures refused { RefusesOnly (NameUnreadable (O.finds opener.old) (map string_bytes words.items) result)
+        (O.refused opener.old) (O.refused opener.new) }
+{
+    run_with_notes(alloc, words, opener, out, &mut io::sink())
+}
 
 /// Runs the command that the words give, and writes its answer to `out`. The first word is the program's own name.
 ///
@@ -28,7 +45,7 @@ use std::io::Write;
 ///
 /// Advice for a person is written to `notes`, a line for each note, to be shown after the answer; nothing if the words ask for
 /// no notes. A run doesn't stop if `notes` fails.
-pub fn run<O: Opener, W: Write, N: Write>(
+pub fn run_with_notes<O: Files, W: Write, N: Write>(
     alloc: Global,
     words: Vec<String>,
     opener: &mut O,
@@ -49,7 +66,7 @@ pub fn run<O: Opener, W: Write, N: Write>(
             return Err(CliStop::from(stop));
         }
     };
-    answer(alloc, &asked, opener, out, notes).map_err(CliStop::File)
+    answer(alloc, &asked, opener, out, notes).map_err(CliStop::from)
 }
 
 /// Answers a request: writes the answer to `out`, and its notes to `notes`.
@@ -70,7 +87,7 @@ pub fn run<O: Opener, W: Write, N: Write>(
 /// file that the request names (`IsFileIn`); with `Write` if `out` failed; and with `Memory`. If the opener refuses a file, it stops
 /// with `Read` and that file's name (`IsNamedUnreadable`). Listed sums are the exception: once the section is open, a listed file
 /// that is refused is part of the answer.
-pub fn answer<O: Opener, W: Write, N: Write>(
+pub fn answer<O: Files, W: Write, N: Write>(
     alloc: Global,
     asked: &Asked<'_>,
     opener: &mut O,
@@ -93,7 +110,7 @@ pub fn answer<O: Opener, W: Write, N: Write>(
 }
 
 // Answers a request. `seen` keeps what notes need of the section's bytes.
-fn answer_request<'r, O: Opener, W: Write>(
+fn answer_request<'r, O: Files, W: Write>(
     alloc: Global,
     request: &'r Request<'_>,
     opener: &mut O,

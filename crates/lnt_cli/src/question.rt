@@ -14,10 +14,10 @@ use crate::inputs::{Opened, Texts, of_file, open_judged, open_other};
 use crate::notes::{Answered, Occasion};
 use crate::stop::FileStop;
 use lnt_answers::{
-    judge_or_refuse, lists_sums, print_addresses, print_files, print_lookups, print_path_table,
-    print_stretches, print_sums, print_table,
+    Report, judge_or_refuse, lists_sums, print_addresses, print_files, print_lookups,
+    print_path_table, print_stretches, print_sums, print_table,
 };
-use lnt_io::{IoStop, Opener, Source, Status, write_whole};
+use lnt_io::{Files, IoStop, Source, Status, write_whole};
 use lnt_lines::{Index, JudgedIndex, Options};
 use lnt_notes::{Hints, Seen, hints_of};
 use lnt_records::PathVersion;
@@ -29,7 +29,7 @@ use std::io::Write;
 
 // Answers a question about a good section, or prints the line that says why the section isn't good. `seen` keeps what notes need
 // of the section's bytes.
-pub(crate) fn answer_question<'t, O: Opener, W: Write>(
+pub(crate) fn answer_question<'t, O: Files, W: Write>(
     alloc: Global,
     from: &Judging<'_>,
     question: &Question,
@@ -50,7 +50,7 @@ pub(crate) fn answer_question<'t, O: Opener, W: Write>(
 }
 
 // Answers a question about a section whose files are open.
-fn answer_opened<'t, S: Source, O: Opener, W: Write>(
+fn answer_opened<'t, S: Source, O: Files, W: Write>(
     alloc: Global,
     from: &Judging<'_>,
     question: &Question,
@@ -85,7 +85,7 @@ fn answer_opened<'t, S: Source, O: Opener, W: Write>(
 
 // Answers a question about a section and the file with this name. Both are opened before the section is read. `seen` keeps what notes
 // need of the section's bytes.
-pub(crate) fn answer_file<'f, O: Opener, W: Write>(
+pub(crate) fn answer_file<'f, O: Files, W: Write>(
     alloc: Global,
     from: &Judging<'_>,
     file: &'f str,
@@ -107,9 +107,13 @@ pub(crate) fn answer_file<'f, O: Opener, W: Write>(
         FileQuestion::Check {
             all: false,
             partial,
+            at_least,
+            ..
         } => {
             let scope = Scope::of(partial);
-            check_table(alloc, from, file, scope, &mut files, &mut other, out)
+            check_table(
+                alloc, from, file, scope, at_least, &mut files, &mut other, out,
+            )
         }
         FileQuestion::Check { all: true, .. } => {
             answer_both(alloc, from, file, question, &mut files, &mut other, out)
@@ -171,10 +175,20 @@ fn answer_good_file<'f, F: Source, W: Write>(
             let occasion = Occasion::Good(hints_of(index));
             Ok(Answered { status, occasion })
         }
-        FileQuestion::Check { partial, .. } => {
-            let printed = print_stretches(alloc, bytes, index, Scope::of(partial), out);
+        FileQuestion::Check {
+            ends,
+            partial,
+            at_least,
+            ..
+        } => {
+            let report = Report {
+                scope: Scope::of(partial),
+                ends,
+                at_least,
+            };
+            let printed = print_stretches(alloc, bytes, index, report, out);
             let told = of_file(name, printed)?;
-            Ok(Answered::of_stretches(&told, file))
+            Ok(Answered::of_stretches(&told, file, report.scope))
         }
     }
 }
@@ -215,7 +229,7 @@ fn judge<'t, R: Source, W: Write>(
 // Prints the answer of a good section. It is never inlined: some answers have large blocks on the stack, which is short, and
 // the frames of other subcommands are not to hold these too.
 #[inline(never)]
-fn print_answer<O: Opener, W: Write>(
+fn print_answer<O: Files, W: Write>(
     alloc: Global,
     index: &Index<'_>,
     question: &Question,

@@ -10,7 +10,7 @@ use crate::inputs::{of_file, open_section, read_named, read_whole};
 use crate::notes::Answered;
 use crate::stop::FileStop;
 use lnt_dump::{DumpParts, print_converted, print_dump, print_units, print_upgraded};
-use lnt_io::{IoStop, Opener, Source, Status};
+use lnt_io::{Files, IoStop, Source, Status};
 use lnt_notes::Seen;
 use lnt_wire::Order;
 use lnt_words::{Reading, Upgrading};
@@ -19,7 +19,7 @@ use std::cell::Cell;
 use std::io::Write;
 
 // Prints what this reading of the section in the file with this name asks for. `seen` keeps what notes need of its bytes.
-pub(crate) fn read_section<'t, O: Opener, W: Write>(
+pub(crate) fn read_section<'t, O: Files, W: Write>(
     alloc: Global,
     section: &str,
     order: Order,
@@ -43,7 +43,7 @@ pub(crate) fn read_section<'t, O: Opener, W: Write>(
 
 // Prints a section with its older units written anew. The files are read before anything is written. `seen` keeps what notes
 // need of the section's bytes.
-pub(crate) fn upgrade_section<'t, O: Opener, W: Write>(
+pub(crate) fn upgrade_section<'t, O: Files, W: Write>(
     alloc: Global,
     from: &Upgrading<'_>,
     opener: &mut O,
@@ -69,7 +69,7 @@ pub(crate) fn upgrade_section<'t, O: Opener, W: Write>(
 }
 
 // The same. The name isn't told if it is stopped.
-fn print_asked<O: Opener, W: Write>(
+fn print_asked<O: Files, W: Write>(
     alloc: Global,
     section: &str,
     order: Order,

@@ -1,8 +1,8 @@
 //! Why a run is stopped.
 ghost use Rattle.std.specs.Prelude.{◌≡◌, string_bytes};
-ghost use Rattle.lnt_cli.specs.Stops.{IsFileStop, IsOfWords, NamesOneOf};
-ghost use Rattle.lnt_cli.specs.declared.stop.CliStop.TheVariants.{File};
-ghost use Rattle.lnt_cli.specs.declared.stop.FileStop.TheVariants.{Memory, Write};
+ghost use Rattle.lnt_cli.specs.Stops.{IsFileStop, IsOfWords, NamesOneOf, run_stop};
+ghost use Rattle.lnt_cli.specs.declared.stop.CliStop.TheVariants as run;
+ghost use Rattle.lnt_cli.specs.declared.stop.FileStop.TheVariants as answer;
 
 use lnt_io::IoStop;
 use lnt_text::Shown;
@@ -18,14 +18,6 @@ pub enum CliStop {
     /// bad, and ends in a line feed.
     #[error("{0}")]
     Usage(String),
-    /// A file or the writer failed, or memory ran out.
-    #[error(transparent)]
-    File(FileStop),
-}
-
-/// Why the answer to a request was stopped.
-#[derive(Debug, Drop, Error)]
-pub enum FileStop {
     /// The file with this name can't be opened or read. A name with control characters is shown between quotes.
     #[error("linetab: cannot read {}", Shown(.0))]
     Read(String),
@@ -37,6 +29,19 @@ pub enum FileStop {
     Write,
     /// Memory ran out.
     #[error("linetab: out of memory")]
+    Memory,
+}
+
+/// Why the answer to a request was stopped: as a run, which has the texts, but for words that ask for nothing.
+#[derive(Debug, Drop)]
+pub enum FileStop {
+    /// The file with this name can't be opened or read.
+    Read(String),
+    /// The file with this name has more bytes than are read of a file, 2^40.
+    TooLong(String),
+    /// The writer failed.
+    Write,
+    /// Memory ran out.
     Memory,
 }
 
@@ -61,21 +66,34 @@ impl From<WordsStop> for CliStop {
     fn from(stop: WordsStop) -> CliStop {
         match stop {
             WordsStop::Usage(text) | WordsStop::BadWord { text, .. } => CliStop::Usage(text),
-            WordsStop::Memory => CliStop::File(FileStop::Memory),
+            WordsStop::Memory => CliStop::Memory,
+        }
+    }
+}
+
+impl From<FileStop> for CliStop {
+    ghost from_gives = { λ stop found. found ≡ run_stop stop };
+
+    fn from(stop: FileStop) -> CliStop {
+        match stop {
+            FileStop::Read(name) => CliStop::Read(name),
+            FileStop::TooLong(name) => CliStop::TooLong(name),
+            FileStop::Write => CliStop::Write,
+            FileStop::Memory => CliStop::Memory,
         }
     }
 }
 
 impl From<AllocError> for CliStop {
-    ghost from_gives = { λ _ stop. stop ≡ File Memory };
+    ghost from_gives = { λ _ stop. stop ≡ run.Memory };
 
     fn from(_error: AllocError) -> CliStop {
-        CliStop::File(FileStop::Memory)
+        CliStop::Memory
     }
 }
 
 impl From<AllocError> for FileStop {
-    ghost from_gives = { λ _ stop. stop ≡ Memory };
+    ghost from_gives = { λ _ stop. stop ≡ answer.Memory };
 
     fn from(_error: AllocError) -> FileStop {
         FileStop::Memory
@@ -84,7 +102,7 @@ impl From<AllocError> for FileStop {
 
 // Only a write gives this error: a source reports a failed read by itself.
 impl From<io::Error> for FileStop {
-    ghost from_gives = { λ _ stop. stop ≡ Write };
+    ghost from_gives = { λ _ stop. stop ≡ answer.Write };
 
     fn from(_error: io::Error) -> FileStop {
         FileStop::Write

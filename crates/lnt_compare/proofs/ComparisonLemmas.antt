@@ -1,15 +1,17 @@
 -- What a comparison knows after one more record, after lines that were passed, and in the end, by number or by path.
 use Rattle.lnt_spans.specs.SpanKinds.{SpanKind, answer_held, last_end}
 use Rattle.std.proofs.Common.{◌≡◌, ◌∙◌, ℕ, ◌+◌, List, [], ◌∷◌, ◌++◌, inl, inr, length, length-append, map, None, Option, refl, subst, ap}
-use Rattle.std.proofs.Common.{append-nil, append_assoc, sym, arith, option_map}
+use Rattle.std.proofs.Common.{append-nil, append_assoc, sym, arith, option_map, is_some, Some}
 use Rattle.std.specs.List.{AllZip}
 use Rattle.lnt_spans.specs.declared.answer.Answer.{Answer}
 use Rattle.lnt_spans.specs.declared.position.Position.{Position}
 use Rattle.lnt_spans.specs.declared.span.Span.{Span}
 use Rattle.lnt_spans.specs.Spans.{end_of, AreInOrder, span_answer, number_spans}
 use Rattle.lnt_spans.specs.Merged.{BeginFrom, HasMerged, HasOneMore, answer_told, end_of_records}
+use Rattle.lnt_spans.specs.Partial.{addresses_answered, addresses_of}
 use Rattle.lnt_spans.specs.Positions.{IsAtMost, IsBelow}
 use Rattle.lnt_spans.proofs.AnsweringLaws.{back_in_order, end_pushed, prefix_in_order, answer_after, answer_before, answer_in, answer_same}
+use Rattle.lnt_spans.proofs.CountLemmas.{addresses_of_spans, same_addresses}
 use Rattle.lnt_spans.proofs.FoundLaws.{found_so}
 use Rattle.lnt_spans.proofs.MergedLemmas.{merged_past}
 use Rattle.lnt_spans.proofs.PassedLaws.{answer_below, answer_from, begin_after}
@@ -107,11 +109,11 @@ order_refused kind laws version at table records fields span t ends says not =
 
 past_merged : {S D M V X Y : Type 0} (to_come : S → List Span → Type 0) (kind : TableKind V X Y D) (tell : Answer → Y)
     (told : Span → X) → ToldLaws kind tell told → (spans : S) (comparison : Comparison S D M) (at : Position)
-    (passed list : List Span) → IsPast to_come spans comparison at → to_come spans list → AreInOrder (passed ++ list)
-    → at ≡ end_of passed → HasMerged to_come tell kind.stretch comparison.merge (passed ++ list) (answer_held kind.spans (map told passed))
-past_merged to_come kind tell told laws spans comparison at passed list past coming order ends =
+    (answered : ℕ) (passed list : List Span) → IsPast to_come spans comparison at answered → to_come spans list
+    → AreInOrder (passed ++ list) → at ≡ end_of passed → answered ≡ addresses_of passed → HasMerged to_come tell kind.stretch comparison.merge (passed ++ list) (answer_held kind.spans (map told passed))
+past_merged to_come kind tell told laws spans comparison at answered passed list past coming order ends counted =
     merged_past to_come tell kind.stretch comparison.merge (passed ++ list) (answer_held kind.spans (map told passed)) past.gap past.mistake
-    past.missed
+    past.missed (past.answered_is ∙ counted ∙ sym (addresses_of_spans passed (prefix_in_order number_spans passed list order)) ∙ sym told_some)
     (λ p h. laws.answers passed p ∙ ap (option_map tell) (none p (subst (λ (q : Position). IsAtMost q p) is h)))
     (λ p h. ap (option_map tell) (answer_below passed list p order (subst (λ (q : Position). IsBelow p q) is h))
     ∙ sym (laws.answers passed p))
@@ -122,43 +124,51 @@ past_merged to_come kind tell told laws spans comparison at passed list past com
     is : end_of_records comparison.merge ≡ end_of passed
     is = past.at_is ∙ ends
 
+    is_some_told : (answer : Option Answer) → is_some (option_map tell answer) ≡ is_some answer
+    is_some_told None = refl
+    is_some_told (Some answer) = refl
+
+    told_some : addresses_answered (answer_held kind.spans (map told passed)) ≡ addresses_answered (span_answer passed)
+    told_some = same_addresses (answer_held kind.spans (map told passed)) (span_answer passed)
+        (λ p. ap is_some (laws.answers passed p) ∙ is_some_told (span_answer passed p))
+
     none : (p : Position) → IsAtMost (end_of passed) p → span_answer passed p ≡ None
     none p h = ap (λ (xs : List Span). span_answer xs p) (sym (append-nil passed))
         ∙ answer_from passed [] p (subst AreInOrder (sym (append-nil passed)) (prefix_in_order number_spans passed list order)) h
 
 pub judges_past : {S D M V X Y : Type 0} (to_come : S → List Span → Type 0) (kind : TableKind V X Y D) (tell : Answer → Y)
     (told : Span → X) → ToldLaws kind tell told → (version : V) (spans : S) (comparison : Comparison S D M)
-    (at : Position) (passed list : List Span) (records : List Fields) → IsPast to_come spans comparison at
-    → to_come spans list → AreInOrder (passed ++ list) → at ≡ end_of passed → AllZip (kind.format.Says version) records (map told passed)
+    (at : Position) (answered : ℕ) (passed list : List Span) (records : List Fields) → IsPast to_come spans comparison at answered
+    → to_come spans list → AreInOrder (passed ++ list) → at ≡ end_of passed → answered ≡ addresses_of passed → AllZip (kind.format.Says version) records (map told passed)
     → Judges to_come kind tell version comparison (passed ++ list) (kind.format.names version ∷ records)
-judges_past to_come kind tell told laws version spans comparison at passed list records past coming order ends each = record {
+judges_past to_come kind tell told laws version spans comparison at answered passed list records past coming order ends counted each = record {
   table = map told passed;
   is_table = (refl, record { each = each; in_order = laws.order passed (prefix_in_order number_spans passed list order) });
   at = past.at_is ∙ ends ∙ sym (laws.ends passed);
-  merged = past_merged to_come kind tell told laws spans comparison at passed list past coming order ends;
+  merged = past_merged to_come kind tell told laws spans comparison at answered passed list past coming order ends counted;
 }
 
 -- after the header alone
 pub judges_none : {S D M V X Y : Type 0} (to_come : S → List Span → Type 0) (kind : TableKind V X Y D) (tell : Answer → Y)
     (told : Span → X) → ToldLaws kind tell told → (version : V) (spans : S) (comparison : Comparison S D M)
-    (list : List Span) → IsPast to_come spans comparison (record { address = 0; op = 0 }) → to_come spans list → AreInOrder list
+    (list : List Span) → IsPast to_come spans comparison (record { address = 0; op = 0 }) 0 → to_come spans list → AreInOrder list
     → Judges to_come kind tell version comparison list (kind.format.names version ∷ [])
 judges_none to_come kind tell told laws version spans comparison list past coming order =
-    judges_past to_come kind tell told laws version spans comparison _ [] list [] past coming order refl tt
+    judges_past to_come kind tell told laws version spans comparison _ 0 [] list [] past coming order refl refl tt
 
 pub passed_past : {S D M V X Y : Type 0} (to_come : S → List Span → Type 0) (kind : TableKind V X Y D) (plain : LineFormat V X)
     (tell : Answer → Y) (told : Span → X) → ToldLaws kind tell told → (version : V) (spans : S)
-    (comparison : Comparison S D M) (list table : List Span) (text : List ℕ) (count : ℕ) (at : Position)
-    → IsPast to_come spans comparison at → AreLinesOf kind.format plain told version text table count at
-    → LeaveOff tell (to_come spans) list table → HasPassed to_come kind plain tell version comparison list text count
-passed_past to_come kind plain tell told laws version spans comparison list table text count at past lines off = record {
+    (comparison : Comparison S D M) (list table : List Span) (text : List ℕ) (count : ℕ) (at : Position) (answered : ℕ)
+    → IsPast to_come spans comparison at answered → AreLinesOf kind.format plain told version text table count at
+    → LeaveOff tell (to_come spans) list table → answered ≡ addresses_of table → HasPassed to_come kind plain tell version comparison list text count
+passed_past to_come kind plain tell told laws version spans comparison list table text count at answered past lines off counted = record {
   records = lines.lines.records;
   count = lines.lines.count_is;
   text_is = lines.lines.text_is;
   list = table ++ off.rest;
   alike = off.same;
-  judged = judges_past to_come kind tell told laws version spans comparison at table off.rest lines.lines.records past off.left
-      off.order lines.end_is lines.lines.each;
+  judged = judges_past to_come kind tell told laws version spans comparison at answered table off.rest lines.lines.records past off.left
+      off.order lines.end_is counted lines.lines.each;
 }
 
 -- ---- more records, each on a line of its own

@@ -7,12 +7,12 @@ use Rattle.lnt_spans.specs.Positions.{IsAtMost}
 use Rattle.lnt_spans.proofs.PositionLaws.{at_most_itself, at_most_trans, below_is_at_most}
 use Rattle.lnt_spans.proofs.RunLaws.{HasRuns, first_runs}
 use Rattle.lnt_spans.proofs.SameLaws.{same_options}
-use Rattle.lnt_spans.proofs.StretchLaws.{given_on}
+use Rattle.lnt_spans.proofs.StretchLaws.{AllAfter, given_on}
 use Rattle.lnt_compare.specs.declared.by_path.stretches.DifferencesByPath.{DifferencesByPath}
 use Rattle.lnt_records.specs.declared.by_path.record.SaidPath.{SaidPath}
 use Rattle.lnt_compare.specs.Held.{held_span, IsTableAt, PathsEndAfter}
 use Rattle.lnt_records.specs.PathSpans.{path_answer, PathAnswer, path_span_answer, PathSpan, StandInOrder, path_spans}
-use Rattle.lnt_spans.specs.AnyStretches.{AreAllStretches, Stretch}
+use Rattle.lnt_spans.specs.AnyStretches.{Stretch}
 use Rattle.lnt_records.specs.PathTables.{said_answer}
 use Rattle.lnt_compare.specs.Differing.{HasFoundStretchesByPath}
 use Rattle.lnt_compare.proofs.JoiningLemmas.{made, make}
@@ -71,7 +71,7 @@ as_said (Some answer) = refl
 pub path_stretches_on : {S : Type 0} (to_come : S → List Span → Type 0) (path : ℕ → ℕ → List ℕ) (differences : DifferencesByPath S)
     (by_section by_table : Position → Option PathAnswer) (told : List (Stretch PathAnswer))
     → HasFoundStretchesByPath to_come path differences by_section by_table told
-    → (more : List (Stretch PathAnswer)) × AreAllStretches by_section by_table (told ++ more)
+    → (more : List (Stretch PathAnswer)) × AllAfter by_section by_table told more
 path_stretches_on to_come path differences by_section by_table told h =
     let side = h.given.table in
     let at = differences.stretches.at in

@@ -1,6 +1,6 @@
 -- The spans of a table's records are gathered.
 use Rattle.lnt_spans.proofs.AnsweringLaws.{end_pushed}
-use Rattle.std.proofs.Common.{◌≡◌, ◌∙◌, ℕ, List, [], ◌∷◌, ◌++◌, append-nil, append_assoc, ap, Option, length, refl}
+use Rattle.std.proofs.Common.{◌≡◌, ◌∙◌, ◌+◌, ℕ, List, [], ◌∷◌, ◌++◌, append-nil, append_assoc, ap, Option, length, refl}
 use Rattle.std.proofs.Common.{subst, sym, arith, Global, Vec, IfOk, Result, option_map}
 use Rattle.std.specs.List.{AllByRecursion}
 use Rattle.std.proofs.lemmas.Result.{IfOk-weaker}
@@ -10,6 +10,7 @@ use Rattle.lnt_spans.specs.declared.answer.Version.{Version}
 use Rattle.lnt_spans.specs.declared.span.Span.{Span}
 use Rattle.lnt_spans.specs.declared.position.Position.{Position}
 use Rattle.lnt_spans.specs.Answers.{in_version}
+use Rattle.lnt_spans.specs.Partial.{addresses_between, addresses_of}
 use Rattle.lnt_spans.specs.Spans.{IsTold, end_of, AreInOrder, span_answer, span_in_version, number_spans}
 use Rattle.lnt_spans.specs.declared.listed.SpanList.{SpanList}
 use Rattle.lnt_spans.proofs.ToldLaws.{told, told_order}
@@ -94,22 +95,27 @@ version_told version bytes table t = by_records t.0 t.2
 pub version_order : (version : Version) (bytes : List ℕ) (table : List Span) → IsTableOf version bytes table → AreInOrder table
 version_order version bytes table t = table_order by_number version t.0 table t.2
 
+addresses_told : (version : Version) (table : List Span) → addresses_of table ≡ addresses_of (told version table)
+addresses_told version [] = refl
+addresses_told version (span ∷ table) = ap (λ (n : ℕ). addresses_between span.low span.high + n) (addresses_told version table)
+
 -- the section answers as the lines that were passed and the spans after them do
 pub goes_on : (version : Version) (ToCome : List Span → Type 0) (list table : List Span) (section : Position → Option Answer)
-    (at : Position)
-    → (off : LeaveOff (in_version version) ToCome list table) → at ≡ end_of table → ((p : Position) → span_answer list p ≡ section p)
-    → IsContinuedBy version section (told version table) off.rest at
-goes_on version ToCome list table section at off end answers = record {
+    (at : Position) (answered : ℕ) → (off : LeaveOff (in_version version) ToCome list table) → at ≡ end_of table
+    → answered ≡ addresses_of table → ((p : Position) → span_answer list p ≡ section p)
+    → IsContinuedBy version section (told version table) off.rest at answered
+goes_on version ToCome list table section at answered off end counted answers = record {
   order = first_order version table off.rest off.order;
   same = λ p. first_answer version table off.rest p ∙ off.same p ∙ ap (option_map (in_version version)) (answers p);
   end_is = end ∙ sym (end_told version table);
+  answered_is = counted ∙ addresses_told version table;
 }
 
 -- without passed lines, all spans of the section are to come
 pub all_to_come : (version : Version) (list : List Span) (section : Position → Option Answer) → AreInOrder list
-    → ((p : Position) → span_answer list p ≡ section p) → IsContinuedBy version section [] list (record { address = 0; op = 0 })
+    → ((p : Position) → span_answer list p ≡ section p) → IsContinuedBy version section [] list (record { address = 0; op = 0 }) 0
 all_to_come version list section order answers =
-    record { order = order; same = λ p. ap (option_map (in_version version)) (answers p); end_is = refl }
+    record { order = order; same = λ p. ap (option_map (in_version version)) (answers p); end_is = refl; answered_is = refl }
 
 -- no stretch of a table was given yet
 pub started : {S : Type 0} (of_section : Remaining S → List Span → Type 0) (of_table : SpanList → List Span → Type 0) (bytes : List ℕ)

@@ -1,7 +1,9 @@
 -- The lines of a table by number are passed and compared.
-use Rattle.lnt_spans.proofs.AnsweringLaws.{end_pushed}
+use Rattle.lnt_spans.proofs.AnsweringLaws.{end_pushed, prefix_in_order}
+use Rattle.lnt_spans.proofs.CountLemmas.{addresses_of_spans, most_addresses}
+use Rattle.lnt_spans.specs.Partial.{addresses_between, addresses_of}
 use Rattle.lnt_spans.specs.SpanKinds.{is_held}
-use Rattle.std.proofs.Common.{◌≡◌, ℕ, ◌+◌, Bool, true, false, cond, List, [], ◌∷◌, ◌++◌, Option, Some, None, map, subst}
+use Rattle.std.proofs.Common.{◌≡◌, ℕ, ◌+◌, ◌^◌, ◌≤◌, arith, Bool, true, false, cond, List, [], ◌∷◌, ◌++◌, Option, Some, None, map, subst}
 use Rattle.std.proofs.Common.{append-nil, not, refl, ap, sym, is_some, option_map}
 use Rattle.std.proofs.lemmas.List.{map-append}
 use Rattle.std.proofs.lemmas.Option.{same_Some}
@@ -13,7 +15,7 @@ use Rattle.lnt_spans.specs.declared.answer.Version.TheVariants.{One, Two}
 use Rattle.lnt_spans.specs.declared.position.Position.{Position}
 use Rattle.lnt_spans.specs.declared.span.Span.{Span}
 use Rattle.lnt_spans.specs.Answers.{in_version}
-use Rattle.lnt_spans.specs.Spans.{IsTold, AreInOrder, span_in_version, version_answer, number_spans}
+use Rattle.lnt_spans.specs.Spans.{IsTold, AreInOrder, span_answer, span_in_version, version_answer, number_spans}
 use Rattle.lnt_spans.specs.Remaining.{SpansAreLeft, GivesFirstSpan}
 use Rattle.lnt_spans.proofs.ToldLaws.{told}
 use Rattle.lnt_records.specs.Progress.{AreLinesIn}
@@ -47,6 +49,25 @@ line_added {V} {X} format plain told version text table count end span bytes res
           (lines_more format plain version text (map told table) count line.fields (told span) a.lines line.says);
       end_is = sym (end_pushed number_spans table span);
     }
+
+-- ---- the addresses that the spans of these lines answer
+
+addresses_pushed : (spans : List Span) (span : Span)
+    → addresses_of (spans ++ span ∷ []) ≡ addresses_of spans + addresses_between span.low span.high
+addresses_pushed [] span = omega arith
+addresses_pushed (first ∷ spans) span = let rest = addresses_pushed spans span in omega (arith, rest)
+
+pub answered_pushed : (spans rest : List Span) (span : Span) (old new : ℕ) → AreInOrder ((spans ++ span ∷ []) ++ rest)
+    → old ≡ addresses_of spans
+    → (old + addresses_between span.low span.high ≤ 2 ^ 64 → new ≡ old + addresses_between span.low span.high)
+    → new ≡ addresses_of (spans ++ span ∷ [])
+answered_pushed spans rest span old new order is adds =
+    let all = spans ++ span ∷ [] in
+    let pushed = addresses_pushed spans span in
+    let held = addresses_of_spans all (prefix_in_order number_spans all rest order) in
+    let most = most_addresses (span_answer all) in
+    let sum = adds (omega (arith, pushed, held, most, is)) in
+    omega (arith, pushed, is, sum)
 
 -- ---- answers that a version tells
 

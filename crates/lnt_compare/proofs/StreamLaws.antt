@@ -91,8 +91,9 @@ pub rest_compared : {S R D M V X Y : Type 0} (coming : S → List Span → Type 
     → IfSome source (λ more. IsOutcomeOf kind answers (plain.line (plain.names version) ++ (window ++ more)) outcome)
 rest_compared {M = M} coming to_come kind plain laws format tell told told_laws version section list source may_give window answers
     outcome c come order same =
-    let first = passed_past to_come kind plain tell told told_laws version c.spans c.old list c.table c.compared c.count c.end c.past
-    c.lines (c.left list come order) in
+    let off = c.left list come order in
+    let first = passed_past to_come kind plain tell told told_laws version c.spans c.old list c.table c.compared c.count c.end c.answered
+    c.past c.lines off.0 off.1 in
     let h = passed_more to_come kind plain tell version c.old c.new list c.compared c.parsed c.count c.next first c.taken in
     let passed : List Fields = plain.names version ∷ h.records in
     let narrow = subst IsNarrow (sym (laws.names version)) (format.narrow version) in

@@ -5,7 +5,7 @@ use Rattle.lnt_spans.specs.declared.listed.SpanList.{SpanList}
 use Rattle.lnt_spans.specs.declared.stretches.Differences.{Differences}
 use Rattle.lnt_spans.specs.declared.position.Position.{Position}
 use Rattle.lnt_spans.specs.declared.span.Span.{Span}
-use Rattle.lnt_spans.specs.Stretching.{HasFoundStretches, HasGiven, stretches_to_give}
+use Rattle.lnt_spans.specs.Stretching.{HasFoundStretches, HasGiven, IsGoing, stretches_to_give}
 use Rattle.lnt_spans.specs.Spans.{span_answer}
 use Rattle.lnt_compare.specs.declared.outcome.TableRead.{TableRead}
 use Rattle.lnt_compare.specs.declared.outcome.TableRead.TheVariants as differing
@@ -56,6 +56,15 @@ abbrev pub path_stretches_left : {S : Type 0} → (S → ℕ) → DifferencesByP
 path_stretches_left of_section differences =
     stretches_to_give of_section (λ held at. held_runs at held.spans.now) differences.stretches
 
+-- this stretch was given last, and its two answers are the last ones
+abbrev pub IsGoingByPath : {S : Type 0} → (ℕ → ℕ → List ℕ) → DifferencesByPath S → (Position → Option PathAnswer)
+    → (Position → Option PathAnswer) → Stretch PathAnswer → Type 0
+IsGoingByPath path differences = IsGoing (path_answer differences.version path) said_answer differences.stretches
+
 -- the number of addresses, among those that were compared, at which the section answers and the table doesn't
 abbrev pub path_missed_by : {S : Type 0} → DifferencesByPath S → ℕ
 path_missed_by differences = differences.stretches.missed
+
+-- the number of those at which the section answers
+abbrev pub path_all_by : {S : Type 0} → DifferencesByPath S → ℕ
+path_all_by differences = differences.stretches.all

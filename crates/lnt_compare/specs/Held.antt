@@ -30,7 +30,7 @@ abbrev pub HoldsInOrder : HeldTable → Type 0
 HoldsInOrder (held.Fault told) = Unit {0}
 HoldsInOrder (held.Table (version, spans)) = StandInOrder (map held_span spans.items)
 
--- ---- the spans that a table by path has left, run by run. No public contract speaks of it.
+-- ---- the spans that a table by path has left, run by run
 
 -- The first span, if there is one, ends after p.
 abbrev pub PathsEndAfter : Position → List PathSpan → Type 0

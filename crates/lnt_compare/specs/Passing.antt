@@ -59,7 +59,7 @@ pub record HasTakenLines {C V X : Type 0} (format : TableFormat V X) (plain : Li
   pub number : after + 1 ≡ before + count
   pub judged : (section : List Span) (passed : List Fields) → judges old section passed → judges new section (passed ++ lines.records)
 
--- ---- what is remembered of the paths of files. No public contract speaks of it.
+-- ---- what is remembered of the paths of files
 
 -- All that is remembered of paths is correct.
 pub record IsRemembered (path : ℕ → ℕ → List ℕ) (memory : PathMemory) : Type 0 where

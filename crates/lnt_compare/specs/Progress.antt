@@ -13,6 +13,7 @@ use Rattle.lnt_spans.specs.Answers.{in_version}
 use Rattle.lnt_spans.specs.AnyStretches.{Stretch}
 use Rattle.lnt_spans.specs.Spans.{end_of, AreInOrder, version_answer}
 use Rattle.lnt_spans.specs.Merged.{AreFound, HasMerged, HasOneMore, answer_told, end_of_records}
+use Rattle.lnt_spans.specs.Partial.{addresses_of}
 use Rattle.lnt_spans.specs.Positions.{IsAtMost, IsBelow}
 pub use Rattle.lnt_compare.specs.declared.comparison.Comparison.{Comparison}
 use Rattle.lnt_compare.specs.declared.gather.Gathering.{Gathering}
@@ -40,13 +41,14 @@ pub record Comes (at low high : Position) : Type 0 where
   pub past : IsAtMost at low
   pub holds : IsBelow low high
 
--- Both sides begin with records that end at `at`. The spans after them are to come.
-pub record IsPast {S D M : Type 0} (to_come : S → List Span → Type 0) (spans : S) (comparison : Comparison S D M) (at : Position) : Type
-    0 where
+-- Both sides begin with records that end at `at`, and answer at this many addresses. The spans after them are to come.
+pub record IsPast {S D M : Type 0} (to_come : S → List Span → Type 0) (spans : S) (comparison : Comparison S D M) (at : Position)
+    (answered : ℕ) : Type 0 where
   pub at_is : end_of_records comparison.merge ≡ at
   pub gap : comparison.merge.gap ≡ None
   pub mistake : comparison.merge.mistake ≡ None
   pub missed : comparison.merge.missed ≡ 0
+  pub answered_is : comparison.merge.answered ≡ answered
   pub ahead : (list : List Span) → to_come spans list → IsAhead to_come comparison.merge.spans list
 
 -- One more record was compared.
@@ -109,9 +111,11 @@ pub record HasComparedLines {S R D M V X Y : Type 0} (coming : S → List Span �
   pub end : Position
   pub lines : AreLinesOf format plain told version compared table count end
   pub spans : R
-  pub left : (list : List Span) → coming section list → AreInOrder list → LeaveOff tell (to_come spans) list table
+  pub answered : ℕ
+  pub left : (list : List Span) → coming section list → AreInOrder list
+      → LeaveOff tell (to_come spans) list table × (answered ≡ addresses_of table)
   pub old : Comparison R D M
-  pub past : IsPast to_come spans old end
+  pub past : IsPast to_come spans old end answered
   pub new : Comparison R D M
   pub parsed : List ℕ
   pub next : ℕ
@@ -139,8 +143,10 @@ IsGathered bytes version table (read.Fault told) = IsFault bytes told
 IsGathered bytes version table (read.Table spans) = IsTableOf version bytes (table ++ spans.items)
 
 -- The spans in `table` and then `rest` are in order and answer as the section does, in the fields of the version; the ones
--- in `table` end at `at`.
-pub record IsContinuedBy (version : Version) (section : Position → Option Answer) (table rest : List Span) (at : Position) : Type 0 where
+-- in `table` end at `at`, and answer at this many addresses.
+pub record IsContinuedBy (version : Version) (section : Position → Option Answer) (table rest : List Span) (at : Position) (answered : ℕ)
+    : Type 0 where
   pub order : AreInOrder (table ++ rest)
   pub same : (p : Position) → version_answer version (table ++ rest) p ≡ option_map (in_version version) (section p)
   pub end_is : at ≡ end_of table
+  pub answered_is : answered ≡ addresses_of table

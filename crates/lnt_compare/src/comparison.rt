@@ -51,7 +51,7 @@ pub fn compare_records<S: SpanSource + Drop>(
     let Some(version) = header_of::<Version>(alloc, table)? else {
         return Ok(TableRead::Fault(TableFault::Header));
     };
-    let comparison = Comparison::past((), spans, Position { address: 0, op: 0 });
+    let comparison = Comparison::past((), spans, Position { address: 0, op: 0 }, 0);
     compare_after(alloc, table, &version, comparison, 1)
 }
 
@@ -92,14 +92,14 @@ pub(crate) struct Comparison<S, D, M> {
 }
 
 impl<S: SpanSource + Drop, D: Drop, M: Drop> Comparison<S, D, M> {
-    // The state after the header and the records with which both sides begin. These end at `at`, and the source gives the section's
-    // spans after them.
-    pub(crate) fn past(memory: M, spans: S, at: Position) -> Comparison<S, D, M>
+    // The state after the header and the records with which both sides begin. These end at `at`, and answer at this many addresses. The
+    // source gives the section's spans after them.
+    pub(crate) fn past(memory: M, spans: S, at: Position, answered: u128) -> Comparison<S, D, M>
         ensures memory { result.memory ≡ memory }
-        ensures past { IsPast S.to_come spans result at }
+        ensures past { IsPast S.to_come spans result at answered }
     {
         Comparison {
-            merge: Merge::past(spans, at),
+            merge: Merge::past(spans, at, answered),
             memory,
         }
     }

@@ -63,7 +63,7 @@ pub fn differ_lines<S: SpanSource + Drop, T: Source>(
     )?;
     let text = window.rest_after(alloc, version.header_line(), table)?;
     let gathered = gather_after(alloc, &text, version, passed.end, passed.count);
-    let differing = differ_after(gathered, passed.spans, version, passed.end)?;
+    let differing = differ_after(gathered, passed.spans, version, passed.end, passed.answered)?;
     Ok(differing)
 }
 
@@ -85,7 +85,7 @@ pub fn differ_records<S: SpanSource + Drop>(
     };
     let at = Position { address: 0, op: 0 };
     let gathered = gather_after(alloc, text, version, at, 1);
-    differ_after(gathered, Remaining::all(spans), version, at)
+    differ_after(gathered, Remaining::all(spans), version, at, 0)
 }
 
 // Starts the comparison after the spans with which both sides begin: the spans gathered from the table's other records, with
@@ -95,9 +95,10 @@ fn differ_after<S: SpanSource + Drop>(
     spans: Remaining<S>,
     version: Version,
     at: Position,
+    answered: u128,
 ) -> Result<Differing<S>, AllocError>
     ensures { IfOk result (λ differing. (bytes : List ℕ) (section : Place → Option Answer) (table rest : List Span)
-        → IfOk gathered (IsGathered bytes version table) → IsContinuedBy version section table rest at
+        → IfOk gathered (IsGathered bytes version table) → IsContinuedBy version section table rest at answered
         → ⟦<Remaining<S> as SpanSource>⟧.to_come spans rest
         → IsDiffering ⟦<Remaining<S> as SpanSource>⟧.to_come ⟦<SpanList as SpanSource>⟧.to_come bytes section differing) }
 {
@@ -105,7 +106,8 @@ fn differ_after<S: SpanSource + Drop>(
         TableRead::Fault(fault) => Ok(TableRead::Fault(fault)),
         TableRead::Table(records) => {
             let records = SpanList::of(records);
-            Ok(TableRead::Table(Differences::past(spans, records, version, at)))
+            let differences = Differences::past(spans, records, version, at, answered);
+            Ok(TableRead::Table(differences))
         }
     }
 }

@@ -2,8 +2,9 @@
 //!
 //! Without it each line would be parsed and its span merged, as it is from the first other line on. A check of a section's own table by
 //! number takes 0.63 of the instructions of that (`bench/RESULTS.md`).
-ghost use Rattle.std.specs.Prelude.{◌-◌, ◌^◌, ◌<◌, ℕ, List, IfOk, IsErrOf};
+ghost use Rattle.std.specs.Prelude.{◌≡◌, ◌-◌, ◌^◌, ◌<◌, ℕ, List, IfOk, IsErrOf};
 ghost use Rattle.lnt_spans.specs.declared.span.Span as spec;
+ghost use Rattle.lnt_spans.specs.Partial.{addresses_of};
 ghost use Rattle.lnt_spans.specs.Spans.{AreInOrder};
 ghost use Rattle.lnt_compare.specs.Joining.{LeaveOff};
 ghost use Rattle.lnt_compare.specs.Passing.{AreLinesOf, Passes};
@@ -15,16 +16,17 @@ use crate::remaining::Remaining;
 use crate::window::Window;
 use lnt_io::{Source, Stop};
 use lnt_records::{ROOM, next_number};
-use lnt_spans::{Position, SpanSource};
+use lnt_spans::{Position, SpanSource, add_between};
 use std::alloc::Global;
 
-// The state after these lines: the spans after those of the lines, the number of records so far, including the header, and
-// the end of the last record.
+// The state after these lines: the spans after those of the lines, the number of records so far, including the header, the end of the
+// last record, and the number of addresses at which they answer.
 #[derive(Drop)]
 pub(crate) struct Passed<S> {
     pub(crate) spans: Remaining<S>,
     pub(crate) count: u64,
     pub(crate) end: Position,
+    pub(crate) answered: u128,
 }
 
 // Moves past the lines of a table that are the lines of the canonical spans, as these come, up to the first line that isn't.
@@ -46,7 +48,7 @@ pub(crate) fn pass_spans<S: SpanSource + Drop, L: LineTelling, T: Source, C>(
         × Passes (T.remaining source.old) (T.remaining source.new) (T.left source.old) (T.left source.new) window.old window.new text
         × AreLinesOf L.format L.plain (L.told telling.now) (L.version telling.now) text table passed.count passed.end
         × ((list : List spec.Span) → S.to_come spans list → AreInOrder list → LeaveOff (L.tell telling.now)
-        (⟦<Remaining<S> as SpanSource>⟧.to_come passed.spans) list table)) }
+        (⟦<Remaining<S> as SpanSource>⟧.to_come passed.spans) list table × (passed.answered ≡ addresses_of table))) }
     ensures failures { CountsFailure ⟦<T as Source>⟧ source.old source.new result Stop.Read }
     ensures not_long { IsErrOf result Stop.TooLong → ⊥ }
 {
@@ -54,14 +56,26 @@ pub(crate) fn pass_spans<S: SpanSource + Drop, L: LineTelling, T: Source, C>(
     let mut room = [0; ROOM];
     let mut count = 1;
     let mut end = Position { address: 0, op: 0 };
+    let mut answered = 0;
     while let Some(span) = joined.next_joined(telling, memory)? {
         if !telling.pass_line(alloc, memory, &mut room, &span, source, window)? {
             let spans = joined.remaining(Some(span));
-            return Ok(Passed { spans, count, end });
+            return Ok(Passed {
+                spans,
+                count,
+                end,
+                answered,
+            });
         }
         count = next_number(count)?;
         end = span.high;
+        add_between(&mut answered, span.low, span.high);
     }
     let spans = joined.remaining(None);
-    Ok(Passed { spans, count, end })
+    Ok(Passed {
+        spans,
+        count,
+        end,
+        answered,
+    })
 }

@@ -88,7 +88,7 @@ pub(crate) fn compare_coming<
         table,
         &mut window,
     )?;
-    let mut state = Comparison::past(memory, passed.spans, passed.end);
+    let mut state = Comparison::past(memory, passed.spans, passed.end, passed.answered);
     let next = push_lines(alloc, telling, &mut state, passed.count, table, &mut window)?;
     let text = window.rest_after(alloc, telling.header(), table)?;
     let outcome = compare_after(alloc, &text, telling, state, next)?;

@@ -1,6 +1,6 @@
 -- The frames of a section, one after another, and their lines.
 use Rattle.std.proofs.Common.{◌≡◌, ℕ, ◌+◌, List, [], ◌∷◌, ◌++◌, length, Option, Some, None, IfSome, Result, Ok, Err, IfOk, OnOk, refl, sym}
-use Rattle.std.proofs.Common.{ap, subst, ◌∙◌, append-nil, flat_map}
+use Rattle.std.proofs.Common.{ap, subst, ◌∙◌, append-nil, flat_map, Bool, length-append, arith}
 use Rattle.std.proofs.KnownBytes.{Appends-nil, Appends-trans}
 use Rattle.std.proofs.lemmas.List.Concat.{flat_map-append}
 use Rattle.std.specs.Io.KnownBytes.{Appends}
@@ -12,7 +12,8 @@ use Rattle.lnt_wire.specs.declared.fault.Fault.{Fault}
 use Rattle.lnt_wire.specs.declared.format.Order.{Order}
 use Rattle.lnt_wire.specs.declared.frame.Frame.{Frame}
 use Rattle.lnt_wire.proofs.FrameListLaws.{FramesSoFar, no_frames, one_more_frame}
-use Rattle.lnt_io.proofs.PullLaws.{pulls_none, pulls_append}
+use Rattle.lnt_io.specs.Stopping.{IsFoundTooLong}
+use Rattle.lnt_io.proofs.PullLaws.{more_from_start, pulls_none, pulls_append}
 use Rattle.lnt_unit.specs.Units.{IsNextUnit, SectionEndsBy, BufferedUnit}
 use Rattle.lnt_io.specs.declared.io_stop.IoStop.{IoStop}
 use Rattle.lnt_io.specs.declared.status.Status.{Status}
@@ -45,6 +46,15 @@ read_none {order} {start} {now} {of_reader} {offset} ordered at same = record {
 pub frames_none : {order : Order} {start now old : Option (List ℕ)} {of_reader : Order} {offset : ℕ} → of_reader ≡ order → offset ≡ 0
     → now ≡ start → FramesPrinted order start now old old of_reader offset
 frames_none {old = old} ordered at same = record { frames = []; read = read_none ordered at same; printed = Appends-nil old }
+
+-- A source that is found too long after these frames has more bytes from the start than it may give.
+pub long_since : {order : Order} {start now : Option (List ℕ)} {frames : List Frame} {of_reader : Order} {offset : ℕ} (found : Bool)
+    (left before : ℕ) → FramesRead order start now frames of_reader offset → left + offset ≡ before → IsFoundTooLong found now left
+    → IsFoundTooLong found start before
+long_since {start = start} {now = now} {offset = offset} found left before read same long =
+    let place : left + length read.prefix ≡ before =
+    omega (arith, ap length read.so_far.whole, length-append read.so_far.prefix [], read.so_far.place, same) in
+    record { is_found = long.is_found; more = more_from_start start now read.prefix before left read.pulls place long.more }
 
 -- the frames of the bytes with one frame more
 frames_push : {order : Order} {frames : List Frame} {frame : Frame} {prefix more : List ℕ} {of_reader : Order} {offset after : ℕ}

@@ -42,6 +42,7 @@ pub(crate) fn print_unit_fault<W: Write>(
     out: &mut W,
 ) -> Result<Status, IoStop>
     ensures no { IfOk result (λ status. status ≡ No) }
+    ensures err { IfErr result IsPrinting }
     ensures line { OnOk result (Appends (W.contents out.old) (W.contents out.new) (fault_line offset (Some fault))) }
     ensures prefix { OnErr result (AppendsPrefix (W.contents out.old) (W.contents out.new) (fault_line offset (Some fault))) }
 {

@@ -1,7 +1,8 @@
 //! How headers are printed, with their entries read one by one in place.
-ghost use Rattle.std.specs.Prelude.{◌≡◌, ◌++◌, IfSome, OnErr, OnOk, Some, codes, decimal};
+ghost use Rattle.std.specs.Prelude.{◌≡◌, ◌++◌, IfErr, IfSome, OnErr, OnOk, Some, codes, decimal};
 ghost use Rattle.std.specs.Io.KnownBytes.{Appends};
 ghost use Rattle.lnt_io.specs.Prefixes.{AppendsPrefix};
+ghost use Rattle.lnt_io.specs.IoStops.{IsPrinting};
 ghost use Rattle.hex.specs.Hex.{encode_lower};
 ghost use Rattle.lnt_wire.specs.Borrowed.{value_of};
 ghost use Rattle.lnt_wire.specs.Bytes.{NoneSpelled};
@@ -37,6 +38,7 @@ pub(crate) fn print_header<W: Write>(
         (W.contents out.old) (W.contents out.new) page.new.items) }
     ensures prefix { OnErr result (AppendsPrefix (W.contents out.old) (W.contents out.new)
         (page.old.items ++ header_lines frame.now header.now)) }
+    ensures err { IfErr result IsPrinting }
 {
     put_numbers(frame, header.numbers(), page)?;
     print_entries(alloc, "dir", header.directories(), page, out)?;
@@ -45,7 +47,8 @@ pub(crate) fn print_header<W: Write>(
 
 // Adds the lines of a unit and of its header's numbers.
 fn put_numbers(frame: &Frame<'_>, numbers: &HeaderNumbers, text: &mut Vec<u8>) -> Result<(), IoStop>
-    ensures { OnOk result (text.new.items ≡ text.old.items ++ ((codes "unit " ++ unit_line frame.now) ++ numbers_line numbers.now)) }
+    ensures ok { OnOk result (text.new.items ≡ text.old.items ++ ((codes "unit " ++ unit_line frame.now) ++ numbers_line numbers.now)) }
+    ensures err { IfErr result IsPrinting }
 {
     print_numbers(frame, numbers, text).map_err(|_| IoStop::Memory)
 }
@@ -87,6 +90,7 @@ fn print_entries<W: Write>(
         (W.contents out.old) (W.contents out.new) page.new.items) }
     ensures prefix { OnErr result (AppendsPrefix (W.contents out.old) (W.contents out.new)
         (page.old.items ++ numbered (entry_line name.now table.now.pairs) 0 table.now.entries)) }
+    ensures err { IfErr result IsPrinting }
 {
     let (format, pairs) = (table.format(), table.pairs());
     let mut cursor = table.cursor();
@@ -108,8 +112,9 @@ fn put_line(
     text: &mut Vec<u8>,
 ) -> Result<(), IoStop>
     requires { NoneSpelled (EntryBytes format cursor.old.order pairs.now) cursor.old.rest → ⊥ }
-    ensures { OnOk result (PassesPrinting (entry_line name.now pairs.now index) format pairs.now cursor.old cursor.new
+    ensures ok { OnOk result (PassesPrinting (entry_line name.now pairs.now index) format pairs.now cursor.old cursor.new
         (Some text.old.items) (Some text.new.items)) }
+    ensures err { IfErr result IsPrinting }
 {
     print_entry_line(alloc, name, index, format, pairs, cursor, text).map_err(|_| IoStop::Memory)
 }

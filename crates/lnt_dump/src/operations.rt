@@ -1,7 +1,8 @@
 //! How operations are printed.
-ghost use Rattle.std.specs.Prelude.{◌≡◌, ℕ, ◌++◌, List, OnErr, OnOk, [], codes, cond, decimal, flat_map};
+ghost use Rattle.std.specs.Prelude.{◌≡◌, ℕ, ◌++◌, List, IfErr, OnErr, OnOk, [], codes, cond, decimal, flat_map};
 ghost use Rattle.std.specs.Fmt.{signed_decimal};
 ghost use Rattle.lnt_io.specs.Prefixes.{AppendsPrefix};
+ghost use Rattle.lnt_io.specs.IoStops.{IsPrinting};
 ghost use Rattle.lnt_wire.specs.FaultTexts.{hexadecimal};
 ghost use Rattle.lnt_wire.specs.Leb128.{UnsignedLeb};
 ghost use Rattle.lnt_header.specs.Joins.{Each};
@@ -35,6 +36,7 @@ pub(crate) fn print_ops<W: Write>(
         (W.contents out.old) (W.contents out.new) page.new.items) }
     ensures prefix { OnErr result ((ops : List Op) → IsUnitOf unit.now ops
         → AppendsPrefix (W.contents out.old) (W.contents out.new) (page.old.items ++ cond is_shown (numbered op_line 0 ops) [])) }
+    ensures err { IfErr result IsPrinting }
 {
     if !is_shown {
         return Ok(());
@@ -62,6 +64,7 @@ fn print_op<W: Write>(
         → IsPaged (page.old.items ++ op_line index done) (W.contents out.old) (W.contents out.new) page.new.items) }
     ensures prefix { OnErr result ((done : Op) → StandsFor op.now done
         → AppendsPrefix (W.contents out.old) (W.contents out.new) (page.old.items ++ op_line index done)) }
+    ensures err { IfErr result IsPrinting }
 {
     put_op_line(alloc, page, index, op)?;
     turn_full(page, out)

@@ -1,6 +1,7 @@
 //! How rows are printed.
-ghost use Rattle.std.specs.Prelude.{◌++◌, List, OnErr, OnOk, [], cond};
+ghost use Rattle.std.specs.Prelude.{◌++◌, List, IfErr, OnErr, OnOk, [], cond};
 ghost use Rattle.lnt_io.specs.Prefixes.{AppendsPrefix};
+ghost use Rattle.lnt_io.specs.IoStops.{IsPrinting};
 ghost use Rattle.lnt_header.specs.declared.op.Op.{Op};
 ghost use Rattle.lnt_machine.specs.Matrix.{rows};
 ghost use Rattle.lnt_unit.specs.Views.{with_ops};
@@ -29,6 +30,7 @@ pub(crate) fn print_rows<W: Write>(
     ensures prefix { OnErr result ((ops : List Op) → IsUnitOf unit.now ops
         → AppendsPrefix (W.contents out.old) (W.contents out.new)
         (page.old.items ++ cond is_shown (numbered line_of_row 0 (rows (with_ops unit.now ops))) [])) }
+    ensures err { IfErr result IsPrinting }
 {
     if !is_shown {
         return Ok(());
@@ -62,6 +64,7 @@ fn print_row<W: Write>(
         (W.contents out.old) (W.contents out.new) page.new.items) }
     ensures prefix { OnErr result (AppendsPrefix (W.contents out.old) (W.contents out.new)
         (page.old.items ++ line_of_row index row.now)) }
+    ensures err { IfErr result IsPrinting }
 {
     let start = row_line(room, index, row);
     page.extend_from_slice(&room[start..])?;

@@ -1,6 +1,6 @@
 -- Each file of usable tables has a path.
 use Rattle.std.proofs.Common.{ℕ, ◌<◌, List, length, IsSome}
-use Rattle.lnt_header.specs.declared.header.HeaderParts.{HeaderParts}
+use Rattle.lnt_header.specs.Parts.{HeaderParts}
 use Rattle.lnt_files.specs.Paths.{file_path, path_bytes}
 use Rattle.lnt_files.specs.Tables.{AreUsableTables}
 use Rattle.lnt_files.proofs.PathLemmas.{element_there, files_there}

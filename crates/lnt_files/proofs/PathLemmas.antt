@@ -4,7 +4,7 @@ use Rattle.std.proofs.Common.{false, cond, IsSome, option_map, option_and_then}
 use Rattle.std.proofs.lemmas.Option.{slice_get_within, get_or_from_slice_get}
 use Rattle.std.specs.List.{AllByRecursion, slice_get}
 use Rattle.lnt_header.specs.declared.header.Entry.{Entry}
-use Rattle.lnt_header.specs.declared.header.HeaderParts.{HeaderParts}
+use Rattle.lnt_header.specs.Parts.{HeaderParts}
 use Rattle.lnt_header.proofs.FirstLaws.{all_at}
 use Rattle.lnt_files.specs.Paths.{directory_text, directory_path, file_path}
 use Rattle.lnt_files.specs.Tables.{HasPath, HasDirectory, AreUsableTables}

@@ -1,6 +1,6 @@
 -- What is kept of the files of a header: the full path of each, and its sum if one is listed.
 use Rattle.std.specs.Prelude.{◌≡◌, ℕ, List, length, Option, slice_get, option_map, option_and_then, ◌≤◌, [], ◌∷◌, slice_range}
-use Rattle.lnt_header.specs.declared.header.HeaderParts.{HeaderParts}
+use Rattle.lnt_header.specs.Parts.{HeaderParts}
 use Rattle.lnt_files.specs.Paths.{path_bytes, listed_sum}
 use Rattle.lnt_files.specs.declared.files.PathEnd.{PathEnd}
 

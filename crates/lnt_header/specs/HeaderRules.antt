@@ -3,11 +3,10 @@ use Rattle.std.specs.Prelude.{◌≡◌, ℕ, ◌+◌, ◌<◌, ◌⊎◌, List,
 use Rattle.std.specs.Int.{w8, cast_unsigned}
 use Rattle.std.specs.List.{AllByRecursion}
 use Rattle.lnt_wire.specs.FormBytes.{form_of, HasSpelling}
-use Rattle.lnt_wire.specs.declared.format.Format.{Format}
 use Rattle.lnt_header.specs.declared.header.Entry.{Entry}
-pub use Rattle.lnt_header.specs.declared.header.HeaderParts.{HeaderParts}
 use Rattle.lnt_header.specs.declared.header.Pair.{Pair}
 use Rattle.lnt_header.specs.declared.numbers.NumberParts.{NumberParts}
+pub use Rattle.lnt_header.specs.Parts.{HeaderParts, header_of}
 use Rattle.lnt_header.specs.OpRules.{known_lengths, last_known, Admits}
 use Rattle.lnt_header.specs.declared.unit_parts.UnitParts.{UnitParts}
 
@@ -49,18 +48,6 @@ pub record IsEntryTable (pairs : List Pair) (entries : List Entry) : Type 0 wher
   pub few_pairs : length pairs < 256
   pub none_without_pairs : pairs ≡ [] → entries ≡ []
   pub of_format : AllByRecursion (IsEntryOf pairs) entries
-
--- the header of this format, these numbers, directories and files, each in a format, and these last bytes
-abbrev pub header_of : Format → NumberParts → List Pair → List Entry → List Pair → List Entry → List ℕ → HeaderParts
-header_of format numbers directory_format directories file_format files extra = record {
-  format = format;
-  numbers = numbers;
-  directory_format = directory_format;
-  directories = directories;
-  file_format = file_format;
-  files = files;
-  extra = extra;
-}
 
 -- The parts of a header: its numbers, and a format and its entries in each of the two tables.
 pub record IsHeader (h : HeaderParts) : Type 0 where

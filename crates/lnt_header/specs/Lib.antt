@@ -6,3 +6,4 @@ pub mod HeaderRules
 pub mod HeaderTests
 pub mod Joins
 pub mod OpRules
+pub mod Parts

@@ -1,6 +1,7 @@
 //! The header of a unit (DWARF 5, section 6.2.4).
-ghost use Rattle.std.specs.Prelude.{◌≡◌, IfOk, IfErr, Some};
+ghost use Rattle.std.specs.Prelude.{◌≡◌, ◌<◌, IfOk, IfErr, Some};
 ghost use Rattle.lnt_header.specs.FaultTexts.{entry_text};
+ghost use Rattle.lnt_header.specs.Parts.{header_of};
 
 use crate::fault::UnitFault;
 use crate::numbers::{HeaderNumbers, NumberParts};
@@ -47,12 +48,30 @@ impl fmt::Display for EntryTable {
 }
 
 /// What a header is made of, without `unit_length` and `header_length`, which follow from it (DWARF 5, section 6.2.4).
+///
+/// Contracts see its numbers together, as a [`NumberParts`].
 #[derive(Debug, Drop, PartialEq, Eq)]
 pub struct HeaderParts {
     /// The format of the unit.
     pub format: Format,
-    /// The numbers.
-    pub numbers: NumberParts,
+    /// The order of the bytes of its numbers.
+    pub order: Order,
+    /// The number of bytes of an address.
+    pub address_size: u8,
+    /// The number of bytes of the smallest instruction.
+    pub minimum_instruction_length: u8,
+    /// `maximum_operations_per_instruction`: the greatest number of operations of an instruction.
+    pub max_ops: u8,
+    /// Whether a row begins a statement by default: it does unless this is 0.
+    pub default_is_stmt: u8,
+    /// The least number that a special opcode adds to the line.
+    pub line_base: i8,
+    /// The number of different line advances of the special opcodes, from `line_base` on.
+    pub line_range: u8,
+    /// The first special opcode.
+    pub opcode_base: u8,
+    /// `standard_opcode_lengths`: the number of operands of each opcode from 1 to `opcode_base` - 1.
+    pub standard_lengths: Items<u8>,
     /// What each directory consists of.
     pub directory_format: Items<Pair>,
     /// The directories, the compilation directory first.
@@ -63,6 +82,75 @@ pub struct HeaderParts {
     pub files: Items<Entry>,
     /// The bytes between the file table and the program.
     pub extra: Items<u8>,
+}
+
+impl Model for HeaderParts {
+    ghost use Rattle.lnt_header.specs.Parts.{HeaderParts, header_of};
+
+    ghost Value = { HeaderParts };
+
+    ghost view = { λ h. header_of h.format (record {
+      order = h.order;
+      address_size = h.address_size;
+      minimum_instruction_length = h.minimum_instruction_length;
+      max_ops = h.max_ops;
+      default_is_stmt = h.default_is_stmt;
+      line_base = h.line_base;
+      line_range = h.line_range;
+      opcode_base = h.opcode_base;
+      standard_lengths = h.standard_lengths;
+    }) h.directory_format h.directories h.file_format h.files h.extra };
+
+    ghost inverse = { λ h. record {
+      format = h.format;
+      order = h.numbers.order;
+      address_size = h.numbers.address_size;
+      minimum_instruction_length = h.numbers.minimum_instruction_length;
+      max_ops = h.numbers.max_ops;
+      default_is_stmt = h.numbers.default_is_stmt;
+      line_base = h.numbers.line_base;
+      line_range = h.numbers.line_range;
+      opcode_base = h.numbers.opcode_base;
+      standard_lengths = h.numbers.standard_lengths;
+      directory_format = h.directory_format;
+      directories = h.directories;
+      file_format = h.file_format;
+      files = h.files;
+      extra = h.extra;
+    } };
+}
+
+impl HeaderParts {
+    /// The parts with these numbers. Allocates nothing.
+    pub fn of(
+        format: Format,
+        numbers: NumberParts,
+        directory_format: Items<Pair>,
+        directories: Items<Entry>,
+        file_format: Items<Pair>,
+        files: Items<Entry>,
+        extra: Items<u8>,
+    ) -> HeaderParts
+        ensures { result ≡ header_of format numbers directory_format directories file_format files extra }
+    {
+        HeaderParts {
+            format,
+            order: numbers.order,
+            address_size: numbers.address_size,
+            minimum_instruction_length: numbers.minimum_instruction_length,
+            max_ops: numbers.max_ops,
+            default_is_stmt: numbers.default_is_stmt,
+            line_base: numbers.line_base,
+            line_range: numbers.line_range,
+            opcode_base: numbers.opcode_base,
+            standard_lengths: numbers.standard_lengths,
+            directory_format,
+            directories,
+            file_format,
+            files,
+            extra,
+        }
+    }
 }
 
 /// A header: parts that have an encoding in the 64-bit format, where its lengths fit (DWARF 5, section 6.2.4). Contracts
@@ -79,7 +167,7 @@ pub struct Header {
 }
 
 impl Model for Header {
-    ghost use Rattle.lnt_header.specs.declared.header.HeaderParts.{HeaderParts};
+    ghost use Rattle.lnt_header.specs.Parts.{HeaderParts};
     ghost use Rattle.lnt_header.specs.HeaderRules.{header_of, IsHeader};
 
     ghost Value = { HeaderParts };
@@ -91,7 +179,7 @@ impl Model for Header {
 
 impl Header {
     ghost use Rattle.lnt_header.specs.Conversion.{in_format};
-    ghost use Rattle.lnt_header.specs.HeaderRules.{IsHeader};
+    ghost use Rattle.lnt_header.specs.HeaderRules.{IsAddressSize, IsHeader};
     ghost use Rattle.lnt_header.specs.HeaderTests.{IsPartsFault};
 
     /// The header with these parts, if they have an encoding in the 64-bit format, apart from lengths. Allocates nothing.
@@ -124,15 +212,15 @@ impl Header {
             files,
             extra,
         } = self;
-        HeaderParts {
+        HeaderParts::of(
             format,
-            numbers: numbers.into_parts(),
+            numbers.into_parts(),
             directory_format,
             directories,
             file_format,
             files,
             extra,
-        }
+        )
     }
 
     /// The header in this format and order: only these two change (DWARF 5, sections 6.2.4 and 7.4). Allocates nothing and
@@ -143,7 +231,7 @@ impl Header {
     {
         let mut parts = self.into_parts();
         parts.format = format;
-        parts.numbers.order = order;
+        parts.order = order;
         Header::of(parts)
     }
 
@@ -152,23 +240,24 @@ impl Header {
         requires { IsHeader parts }
         ensures { result ≡ parts }
     {
-        let HeaderParts {
-            format,
-            numbers,
-            directory_format,
-            directories,
-            file_format,
-            files,
-            extra,
-        } = parts;
         Header {
-            format,
-            numbers: HeaderNumbers::of(numbers),
-            directory_format,
-            directories,
-            file_format,
-            files,
-            extra,
+            format: parts.format,
+            numbers: HeaderNumbers::of(NumberParts {
+                order: parts.order,
+                address_size: parts.address_size,
+                minimum_instruction_length: parts.minimum_instruction_length,
+                max_ops: parts.max_ops,
+                default_is_stmt: parts.default_is_stmt,
+                line_base: parts.line_base,
+                line_range: parts.line_range,
+                opcode_base: parts.opcode_base,
+                standard_lengths: parts.standard_lengths,
+            }),
+            directory_format: parts.directory_format,
+            directories: parts.directories,
+            file_format: parts.file_format,
+            files: parts.files,
+            extra: parts.extra,
         }
     }
 
@@ -180,7 +269,82 @@ impl Header {
         self.format
     }
 
-    /// The numbers, by which its operations are read and done.
+    /// The order of the bytes of the unit's numbers.
+    #[inline(always)]
+    pub fn order(&self) -> Order
+        ensures { result ≡ self.now.numbers.order }
+    {
+        self.numbers.order()
+    }
+
+    /// The number of bytes of an address: 2, 4 or 8.
+    #[inline(always)]
+    pub fn address_size(&self) -> u8
+        ensures value { result ≡ self.now.numbers.address_size }
+        ensures size { IsAddressSize result }
+    {
+        self.numbers.address_size()
+    }
+
+    /// The number of bytes of the smallest instruction.
+    #[inline(always)]
+    pub fn minimum_instruction_length(&self) -> u8
+        ensures { result ≡ self.now.numbers.minimum_instruction_length }
+    {
+        self.numbers.minimum_instruction_length()
+    }
+
+    /// The greatest number of operations of an instruction. It isn't 0.
+    #[inline(always)]
+    pub fn max_ops(&self) -> u8
+        ensures value { result ≡ self.now.numbers.max_ops }
+        ensures some { 0 < result }
+    {
+        self.numbers.max_ops()
+    }
+
+    /// Whether a row begins a statement by default, as encoded: it does unless this is 0.
+    #[inline(always)]
+    pub fn default_is_stmt(&self) -> u8
+        ensures { result ≡ self.now.numbers.default_is_stmt }
+    {
+        self.numbers.default_is_stmt()
+    }
+
+    /// The least number that a special opcode adds to the line.
+    #[inline(always)]
+    pub fn line_base(&self) -> i8
+        ensures { result ≡ self.now.numbers.line_base }
+    {
+        self.numbers.line_base()
+    }
+
+    /// The number of different line advances of the special opcodes, from `line_base` on. It isn't 0.
+    #[inline(always)]
+    pub fn line_range(&self) -> u8
+        ensures value { result ≡ self.now.numbers.line_range }
+        ensures some { 0 < result }
+    {
+        self.numbers.line_range()
+    }
+
+    /// The first special opcode. It isn't 0.
+    #[inline(always)]
+    pub fn opcode_base(&self) -> u8
+        ensures value { result ≡ self.now.numbers.opcode_base }
+        ensures some { 0 < result }
+    {
+        self.numbers.opcode_base()
+    }
+
+    /// `standard_opcode_lengths`: the number of operands of each opcode from 1 to `opcode_base` - 1.
+    pub fn standard_lengths(&self) -> &[u8]
+        ensures { result.now ≡ self.now.numbers.standard_lengths }
+    {
+        self.numbers.standard_lengths()
+    }
+
+    /// The numbers together, by which its operations are read and done.
     #[inline(always)]
     pub fn numbers(&self) -> &HeaderNumbers
         ensures numbers { result.now ≡ self.now.numbers }

@@ -8,7 +8,6 @@ ghost use Rattle.lnt_header.specs.HeaderTests.{IsFirstNot, IsPartsFault};
 
 use crate::fault::UnitFault;
 use crate::header::{Entry, EntryTable, HeaderParts, Pair};
-use crate::numbers::NumberParts;
 use crate::op::KNOWN_LENGTHS;
 use lnt_wire::FormValue;
 
@@ -17,7 +16,7 @@ use lnt_wire::FormValue;
 pub(crate) fn parts_fault(parts: &HeaderParts) -> Option<UnitFault>
     ensures { MatchOption result (IsHeader parts.now) (λ fault. IsPartsFault fault parts.now) }
 {
-    if !has_numbers(&parts.numbers)
+    if !has_numbers(parts)
         || !is_format(
             parts.directory_format.as_slice(),
             parts.directories.as_slice(),
@@ -47,13 +46,21 @@ pub(crate) fn parts_fault(parts: &HeaderParts) -> Option<UnitFault>
 // Whether a header can have the numbers: a valid address size, no zero in a number that mustn't be 0, and lengths that
 // match `opcode_base`.
 #[tactic(auto, using(crate::proofs::TestLemmas::header_numbers))]
-fn has_numbers(numbers: &NumberParts) -> bool
-    ensures { IsTrue result ↔ AreHeaderNumbers numbers.now }
+fn has_numbers(parts: &HeaderParts) -> bool
+    ensures { IsTrue result ↔ AreHeaderNumbers parts.now.numbers }
 {
-    let lengths = numbers.standard_lengths.as_slice();
-    is_address_size(numbers.address_size)
-        && has_no_zero_number(&numbers.single_fields(), numbers.line_base)
-        && usize::from(numbers.opcode_base) == lengths.len() + 1
+    let lengths = parts.standard_lengths.as_slice();
+    let single_fields = [
+        parts.minimum_instruction_length,
+        parts.max_ops,
+        parts.default_is_stmt,
+        parts.line_base.cast_unsigned(),
+        parts.line_range,
+        parts.opcode_base,
+    ];
+    is_address_size(parts.address_size)
+        && has_no_zero_number(&single_fields, parts.line_base)
+        && usize::from(parts.opcode_base) == lengths.len() + 1
         && are_standard_lengths(lengths)
 }
 

@@ -11,7 +11,7 @@ use Rattle.lnt_wire.specs.Numbers.{number_bytes, offset_size}
 use Rattle.lnt_wire.specs.declared.fault.Fault.{Fault}
 use Rattle.lnt_wire.specs.declared.format.Format.{Format}
 use Rattle.lnt_wire.specs.declared.format.Order.{Order}
-use Rattle.lnt_header.specs.declared.header.HeaderParts.{HeaderParts}
+use Rattle.lnt_header.specs.Parts.{HeaderParts}
 use Rattle.lnt_header_bytes.specs.Broken.{InHeader, sound_start, IsFirstField, BrokenHeader}
 use Rattle.lnt_header_bytes.specs.Broken.IsFirstField.{start}
 use Rattle.lnt_header_bytes.specs.FieldsBytes.{FieldsBytes}

@@ -11,7 +11,7 @@ use Rattle.lnt_wire.specs.FrameBytes.{initial_length, LengthFits}
 use Rattle.lnt_wire.proofs.ValueLaws.{offset_width}
 use Rattle.lnt_wire.proofs.LengthLaws.{same_prefix, same_rest, same_number_prefix, same_length}
 use Rattle.lnt_header.specs.declared.header.Entry.{Entry}
-use Rattle.lnt_header.specs.declared.header.HeaderParts.{HeaderParts}
+use Rattle.lnt_header.specs.Parts.{HeaderParts}
 use Rattle.lnt_header.specs.declared.header.Pair.{Pair}
 use Rattle.lnt_header.specs.HeaderRules.{six_bytes, single_bytes}
 use Rattle.lnt_header_bytes.specs.TableBytes.{TableBytes}

@@ -8,7 +8,7 @@ use Rattle.lnt_wire.specs.declared.put.EncodeFault.{EncodeFault}
 use Rattle.lnt_wire.specs.declared.put.EncodeFault.TheVariants.{Memory, TooLarge}
 use Rattle.lnt_wire.specs.FormBytes.{FormBytes, IsTooLarge}
 use Rattle.lnt_header.specs.declared.header.Entry.{Entry}
-use Rattle.lnt_header.specs.declared.header.HeaderParts.{HeaderParts}
+use Rattle.lnt_header.specs.Parts.{HeaderParts}
 use Rattle.lnt_header.specs.declared.header.Pair.{Pair}
 use Rattle.lnt_header.specs.Encoding.{NoSpelling, RefusedPut}
 use Rattle.lnt_header.specs.Joins.{Each}

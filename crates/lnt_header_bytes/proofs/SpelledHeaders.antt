@@ -15,7 +15,7 @@ use Rattle.lnt_wire.specs.Laws as wire
 use Rattle.lnt_wire.specs.Leb128.{UnsignedLeb}
 use Rattle.lnt_wire.specs.Spelled.{FitsForm, HasShortest}
 use Rattle.lnt_header.specs.declared.header.Entry.{Entry}
-use Rattle.lnt_header.specs.declared.header.HeaderParts.{HeaderParts}
+use Rattle.lnt_header.specs.Parts.{HeaderParts}
 use Rattle.lnt_header.specs.declared.header.Pair.{Pair}
 use Rattle.lnt_header_bytes.specs.HeaderPuts.{EntryParts}
 use Rattle.lnt_header_bytes.specs.HeaderBytes.{HeaderBytes, HeaderFieldsBytes, unit_body}

@@ -7,7 +7,7 @@ use Rattle.lnt_wire.specs.Numbers.{OffsetBytes, number_bytes, offset_size}
 use Rattle.lnt_header.specs.HeaderRules.{IsAddressSize, AreHeaderNumbers, single_bytes}
 use Rattle.lnt_header.specs.Joins.{Both}
 use Rattle.lnt_wire.specs.FrameBytes.{version_five, frame_bytes, LengthFits}
-use Rattle.lnt_header.specs.declared.header.HeaderParts.{HeaderParts}
+use Rattle.lnt_header.specs.Parts.{HeaderParts}
 use Rattle.lnt_header_bytes.specs.TableBytes.{TableBytes}
 
 -- ---- the fields of a header after its version up to header_length, with the bytes that this counts, as they are read one after another

@@ -11,7 +11,7 @@ use Rattle.lnt_wire.specs.declared.put.EncodeFault.TheVariants.{TooLarge}
 use Rattle.lnt_wire.specs.FormBytes.{FormBytes}
 use Rattle.lnt_header.specs.Conversion.{in_order}
 use Rattle.lnt_header.specs.HeaderRules.{header_of}
-use Rattle.lnt_header.specs.declared.header.HeaderParts.{HeaderParts}
+use Rattle.lnt_header.specs.Parts.{HeaderParts}
 use Rattle.lnt_header.specs.declared.numbers.NumberParts.{NumberParts}
 use Rattle.lnt_header_bytes.specs.Large.{HasLargeValue}
 use Rattle.lnt_header_bytes.specs.declared.encode.TableToPut.{TableToPut}

@@ -1,11 +1,11 @@
--- What the steps of decoding a header have found. No public contract speaks of it.
+-- What the steps of decoding a header have found. Public contracts speak of `standing` alone.
 use Rattle.std.specs.Prelude.{◌≡◌, ℕ, ◌+◌, List, ◌++◌, length}
 use Rattle.lnt_wire.specs.Reading.{At}
 use Rattle.lnt_wire.specs.FrameBytes.{version_five, initial_length}
 use Rattle.lnt_wire.specs.declared.format.Format.{Format}
 use Rattle.lnt_wire.specs.declared.format.Order.{Order}
 use Rattle.std.specs.Int.{w8, cast_unsigned, cast_signed}
-use Rattle.lnt_header.specs.declared.header.HeaderParts.{HeaderParts}
+use Rattle.lnt_header.specs.Parts.{HeaderParts}
 use Rattle.lnt_header.specs.declared.numbers.NumberParts.{NumberParts}
 use Rattle.lnt_header_bytes.specs.declared.numbers.Singles.{Singles}
 use Rattle.lnt_header_bytes.specs.HeaderBytes.{HeaderFieldsBytes}

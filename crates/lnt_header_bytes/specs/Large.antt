@@ -8,7 +8,7 @@ use Rattle.lnt_wire.specs.Bytes.{IsShortest}
 use Rattle.lnt_wire.specs.FormBytes.{IsTooLarge}
 use Rattle.lnt_wire.specs.FrameBytes.{LengthFits}
 use Rattle.lnt_header.specs.declared.header.Entry.{Entry}
-use Rattle.lnt_header.specs.declared.header.HeaderParts.{HeaderParts}
+use Rattle.lnt_header.specs.Parts.{HeaderParts}
 use Rattle.lnt_header_bytes.specs.HeaderBytes.{HeaderFieldsBytes, unit_body}
 
 -- one of the values is an offset that the format can't say

@@ -7,7 +7,7 @@ use Rattle.lnt_wire.specs.FormBytes.{IsTooLarge}
 use Rattle.lnt_wire.specs.FrameBytes.{LengthFits}
 use Rattle.lnt_wire.specs.Spelled.{FitsForm, HasShortest}
 use Rattle.lnt_header.specs.declared.header.Entry.{Entry}
-use Rattle.lnt_header.specs.declared.header.HeaderParts.{HeaderParts}
+use Rattle.lnt_header.specs.Parts.{HeaderParts}
 use Rattle.lnt_header.specs.declared.header.Pair.{Pair}
 use Rattle.lnt_header_bytes.specs.HeaderBytes.{HeaderFieldsBytes, unit_body, HeaderBytes}
 use Rattle.lnt_wire.specs.declared.format.Format.TheVariants.{D64}

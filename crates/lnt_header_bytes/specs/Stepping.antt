@@ -1,7 +1,7 @@
 -- What the bodies of this crate say of one step: of a reader of tables, and of what keeps their entries. Bodies of
--- lnt_dump pass over values too. No public contract speaks of it.
+-- lnt_dump pass over values too. Public contracts speak of layouts alone.
 use Rattle.std.specs.Prelude.{◌≤◌, length, take, drop, ◌≡◌, ℕ, List, [], ◌∷◌, ◌++◌}
-use Rattle.lnt_header.specs.declared.header.HeaderParts.{HeaderParts}
+use Rattle.lnt_header.specs.Parts.{HeaderParts}
 use Rattle.lnt_header_bytes.specs.Borrowed.{entry_of, header_over, IsHeaderOver, NumbersAndFormats, forms_of, BorrowedTable, borrowed_table}
 use Rattle.lnt_header_bytes.specs.Borrowed.{AreEntryBytes}
 use Rattle.lnt_header_bytes.specs.Marks.{AreMarksOver}

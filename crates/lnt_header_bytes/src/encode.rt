@@ -43,7 +43,7 @@ struct HeaderToPut<'a> {
 }
 
 impl<'a> Model for HeaderToPut<'a> {
-    ghost use Rattle.lnt_header.specs.declared.header.HeaderParts.{HeaderParts};
+    ghost use Rattle.lnt_header.specs.Parts.{HeaderParts};
     ghost use Rattle.lnt_header.specs.HeaderRules.{IsHeader};
     ghost use Rattle.lnt_header_bytes.specs.HeaderPuts.{header_to_put};
 

@@ -25,7 +25,7 @@ pub struct HeaderView<'a> {
 }
 
 impl<'a> Model for HeaderView<'a> {
-    ghost use Rattle.lnt_header.specs.declared.header.HeaderParts.{HeaderParts};
+    ghost use Rattle.lnt_header.specs.Parts.{HeaderParts};
     ghost use Rattle.lnt_header_bytes.specs.Borrowed.{borrowed_header, IsBorrowedHeader};
 
     ghost Value = { HeaderParts };
@@ -116,14 +116,14 @@ impl<'a> HeaderView<'a> {
         let extra = Vec::from_slice(alloc, self.extra)?;
         let directories = self.directories.to_entries(alloc)?;
         let files = self.files.to_entries(alloc)?;
-        Ok(Header::of(HeaderParts {
-            format: self.directories.format(),
-            numbers: numbers.into_parts(),
-            directory_format: Items::new(directory_format),
-            directories: Items::new(directories),
-            file_format: Items::new(file_format),
-            files: Items::new(files),
-            extra: Items::new(extra),
-        }))
+        Ok(Header::of(HeaderParts::of(
+            self.directories.format(),
+            numbers.into_parts(),
+            Items::new(directory_format),
+            Items::new(directories),
+            Items::new(file_format),
+            Items::new(files),
+            Items::new(extra),
+        )))
     }
 }

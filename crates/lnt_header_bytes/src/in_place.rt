@@ -43,7 +43,7 @@ pub struct HeaderInPlace<'a> {
 }
 
 impl<'a> Model for HeaderInPlace<'a> {
-    ghost use Rattle.lnt_header.specs.declared.header.HeaderParts.{HeaderParts};
+    ghost use Rattle.lnt_header.specs.Parts.{HeaderParts};
     ghost use Rattle.lnt_header_bytes.specs.Borrowed.{header_over, IsHeaderOver};
 
     ghost Value = { HeaderParts };

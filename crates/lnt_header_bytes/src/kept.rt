@@ -38,7 +38,7 @@ struct KeptEntries {
 }
 
 impl Model for KeptHeader {
-    ghost use Rattle.lnt_header.specs.declared.header.HeaderParts.{HeaderParts};
+    ghost use Rattle.lnt_header.specs.Parts.{HeaderParts};
     ghost use Rattle.lnt_header_bytes.specs.Stepping.{kept_header, IsKeptHeader};
 
     ghost Value = { HeaderParts };

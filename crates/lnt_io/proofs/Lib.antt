@@ -1,3 +1,4 @@
+pub mod OpenLaws
 pub mod PrefixLaws
 pub mod PullLaws
 pub mod WholeLemmas

@@ -1,9 +1,9 @@
 //! A file that is read, and its name.
 ghost use Rattle.std.specs.Prelude.{◌≡◌, ◌^◌, IfSome, IsNone, false};
-ghost use Rattle.lnt_io.specs.Files.{Readable, RefusesOnly, FindsNoMore, Unreadable};
+ghost use Rattle.lnt_io.specs.Files.{Readable, RefusesOnly, FindsNoMore, OpensOnce, Unreadable};
 
 use crate::source::{ReadFault, Source};
-use crate::{Counted, LIMIT, Opener};
+use crate::{Counted, Files, LIMIT};
 use std::io::Read;
 
 /// The bytes of a file, up to 2^40 of them, and the name that it was opened by, which stays the same. If this source fails,
@@ -15,9 +15,9 @@ pub struct OpenedFile<'n, R> {
 }
 
 impl<'n, R: Read + Drop> OpenedFile<'n, R> {
-    /// Opens the file with this name. It doesn't read yet. The source gives what the opener says of the file; `None` if the
+    /// Opens the file with this name, once. It doesn't read yet. The source gives what the opener says of the file; `None` if the
     /// opener gives no reader.
-    pub fn open<O: Opener<Reader = R>>(opener: &mut O, name: &'n str) -> Option<OpenedFile<'n, R>>
+    pub fn open<O: Files<Reader = R>>(opener: &mut O, name: &'n str) -> Option<OpenedFile<'n, R>>
         ensures name { IfSome result (λ file. ⟦<OpenedFile<'n, R> as Source>⟧.name file ≡ name.now) }
         ensures failures { IfSome result (λ file. ⟦<OpenedFile<'n, R> as Source>⟧.failures file ≡ 0) }
         ensures too_long { IfSome result (λ file. ⟦<OpenedFile<'n, R> as Source>⟧.too_long file ≡ false) }
@@ -26,6 +26,7 @@ impl<'n, R: Read + Drop> OpenedFile<'n, R> {
         ensures none { IsNone result → O.finds opener.old name.now Unreadable }
         ensures later { FindsNoMore (O.finds opener.old) (O.finds opener.new) }
         ensures refused { RefusesOnly (λ other. IsNone result × (name.now ≡ other)) (O.refused opener.old) (O.refused opener.new) }
+        ensures opened { OpensOnce name.now (O.opens opener.old) (O.opens opener.new) }
     {
         let reader = opener.reader_of(name)?;
         Some(OpenedFile {

@@ -12,7 +12,7 @@ use Rattle.lnt_machine.specs.Matrix.{sequences}
 use Rattle.lnt_machine.specs.declared.row.Row.{Row}
 use Rattle.lnt_machine.specs.Walking.{KeepsProgram, KeptProgram, SequenceWalk, WillGive}
 use Rattle.lnt_spans.specs.declared.position.Position as spans
-use Rattle.lnt_header.specs.declared.header.HeaderParts.{HeaderParts}
+use Rattle.lnt_header.specs.Parts.{HeaderParts}
 use Rattle.lnt_files.specs.Files.{AreFilesOf, KeptFile}
 use Rattle.lnt_files.specs.Tables.{AreUsableTables}
 use Rattle.lnt_sequences.specs.declared.extent.Extent.{Extent}

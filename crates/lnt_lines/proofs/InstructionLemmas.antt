@@ -5,7 +5,7 @@ use Rattle.std.proofs.lemmas.List.Elements.{recursion_from_All}
 use Rattle.std.proofs.lemmas.List.Sorted.{All-permutation}
 use native.Mathlib.Nat.{mod-one}
 use Rattle.lnt_header.specs.declared.numbers.NumberParts.{NumberParts}
-use Rattle.lnt_header.specs.declared.header.HeaderParts.{HeaderParts}
+use Rattle.lnt_header.specs.Parts.{HeaderParts}
 use Rattle.lnt_header.specs.declared.op.Op.{Op}
 use Rattle.lnt_header.specs.declared.op.Op.TheVariants.{Special, Copy, EndSequence}
 use Rattle.lnt_header.specs.declared.unit_parts.UnitParts.{UnitParts}

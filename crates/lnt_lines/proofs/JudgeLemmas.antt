@@ -1,7 +1,7 @@
 -- One unit whose program ran to its end, judged.
 use Rattle.std.proofs.Common.{◌≡◌, ℕ, List, length, sym, subst, Option, Some, None, MatchOption}
 use Rattle.std.specs.Option.{option_map, option_or}
-use Rattle.lnt_header.specs.declared.header.HeaderParts.{HeaderParts}
+use Rattle.lnt_header.specs.Parts.{HeaderParts}
 use Rattle.lnt_unit.specs.Views.{View}
 use Rattle.lnt_files.specs.declared.tables.EntryTableFault.{EntryTableFault}
 use Rattle.lnt_files.specs.declared.tables.EntryTableFault.TheVariants.{EntryFormat}

@@ -1,5 +1,5 @@
--- The verdict on one unit: that it is valid, and what is kept of it; or the first thing that is wrong with it. No public
--- contract speaks of it.
+-- The verdict on one unit: that it is valid, and what is kept of it; or the first thing that is wrong with it. Public
+-- contracts speak of whole sections alone, the last definitions here.
 --     line, general   the bytes of .debug_line_str and of .debug_str
 --     dead            the address at which sequences of dead code begin, if one is given
 use Rattle.std.specs.Prelude.{◌≡◌, ℕ, List, [], ◌∷◌, ◌++◌, length, drop, Option}

@@ -1,7 +1,7 @@
 -- Rows that a machine makes from the remaining operations of a walk, and the rows of one sequence.
 use Rattle.std.specs.Prelude.{◌≡◌, ℕ, ◌<◌, Bool, true, false, List, [], ◌∷◌, ◌++◌, length, reverse, slice_index_or, Option, Some, None}
 use Rattle.lnt_header.specs.declared.numbers.NumberParts.{NumberParts}
-use Rattle.lnt_header.specs.declared.header.HeaderParts.{HeaderParts}
+use Rattle.lnt_header.specs.Parts.{HeaderParts}
 use Rattle.lnt_header.specs.declared.op.Op.{Op}
 use Rattle.lnt_header.specs.HeaderRules.{AreHeaderNumbers}
 use Rattle.lnt_ops.specs.Walks.{OperationsAreLeft, IsPlace, Walk}

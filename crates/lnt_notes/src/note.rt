@@ -15,7 +15,7 @@ use crate::survey::{Survey, survey_of};
 use crate::texts::strings_of;
 use crate::watched::Seen;
 use lnt_header::EntryTable;
-use lnt_io::{Opener, source_of};
+use lnt_io::{Files, source_of};
 use lnt_lines::{Index, No};
 use lnt_records::TableFault;
 use lnt_sequences::SeqId;
@@ -115,7 +115,7 @@ pub fn note_refused<N: Write>(seen: &Seen, order: Order, notes: &mut N) -> io::R
 /// Prints the notes to the reason why a section isn't good. It fails only if the writer does; then a prefix of these notes
 /// may be written.
 #[tactic(auto, using(crate::proofs::NoteLemmas::noted_after))]
-pub fn note_bad<O: Opener, N: Write>(
+pub fn note_bad<O: Files, N: Write>(
     alloc: Global,
     no: &No,
     seen: &Seen,
@@ -148,7 +148,7 @@ pub fn note_bad<O: Opener, N: Write>(
 }
 
 /// Prints the notes to a good section. It fails only if the writer does; then a prefix of these notes may be written.
-pub fn note_good<O: Opener, N: Write>(
+pub fn note_good<O: Files, N: Write>(
     alloc: Global,
     hints: &Hints,
     given: &Given<'_>,
@@ -167,7 +167,7 @@ pub fn note_good<O: Opener, N: Write>(
 }
 
 // Prints the option that gives the string section with the paths of this table of a unit, if it wasn't given.
-fn note_strings<O: Opener, N: Write>(
+fn note_strings<O: Files, N: Write>(
     alloc: Global,
     unit: u64,
     which: EntryTable,
@@ -187,7 +187,7 @@ fn note_strings<O: Opener, N: Write>(
     print_any((!is_given).then_some(Note::NoStrings(section)), notes)
 }
 
-fn strings_again<O: Opener>(
+fn strings_again<O: Files>(
     alloc: Global,
     unit: u64,
     which: EntryTable,
@@ -204,7 +204,7 @@ fn strings_again<O: Opener>(
 // sequences. Unless `all` is asked for, the section is read only up to the unit in which a sequence begins at the given
 // address.
 #[tactic(auto, using(crate::proofs::NoteLemmas::noted_after))]
-fn note_dead<O: Opener, N: Write>(
+fn note_dead<O: Files, N: Write>(
     alloc: Global,
     known: Option<u64>,
     all: bool,
@@ -224,7 +224,7 @@ fn note_dead<O: Opener, N: Write>(
     print_any(absent.map(Note::NoneDead), notes)
 }
 
-fn survey_again<O: Opener>(
+fn survey_again<O: Files>(
     alloc: Global,
     all: bool,
     given: &Given<'_>,
@@ -237,7 +237,7 @@ fn survey_again<O: Opener>(
 
 // Prints that copies can be skipped, if the two sequences that overlap begin and end at the same positions and copies
 // aren't skipped yet.
-fn note_copies<O: Opener, N: Write>(
+fn note_copies<O: Files, N: Write>(
     alloc: Global,
     first: SeqId,
     second: SeqId,
@@ -252,7 +252,7 @@ fn note_copies<O: Opener, N: Write>(
     print_any(are_copies.then_some(Note::Copies), notes)
 }
 
-fn alike_again<O: Opener>(
+fn alike_again<O: Files>(
     alloc: Global,
     first: SeqId,
     second: SeqId,
@@ -264,19 +264,24 @@ fn alike_again<O: Opener>(
     end_alike(alloc, &mut source, given.order, first, second)
 }
 
-/// Prints the notes to a table, in the file of this name, that answers as a good section does. It fails only if the writer
-/// does; then a prefix of these notes may be written.
+/// Prints the notes to a table that answers as a good section does. It is in the file of this name, if it was compared at all
+/// positions: then a table that answers nothing shows that the section holds no position. It fails only if the writer does; then
+/// a prefix of these notes may be written.
 #[tactic(auto, using(crate::proofs::NoteLemmas::noted_after))]
-pub fn note_agreed<O: Opener, N: Write>(
+pub fn note_agreed<O: Files, N: Write>(
     alloc: Global,
     given: &Given<'_>,
-    table: &str,
+    table: Option<&str>,
     opener: &O,
     notes: &mut N,
 ) -> io::Result<()>
     ensures { OnOk result (AddsNotes (N.contents notes.old) (N.contents notes.new)) }
 {
-    let holds_nothing = opener.reader_again(table).is_some_and(|reader| {
+    let reader = match table {
+        Some(table) => opener.reader_again(table),
+        None => None,
+    };
+    let holds_nothing = reader.is_some_and(|reader| {
         // A table of its header alone answers nothing.
         matches!(line_after(alloc, reader, 2), Ok(None))
     });
@@ -290,7 +295,7 @@ pub fn note_agreed<O: Opener, N: Write>(
 /// Prints the note to a fault of the table in the file of this name, which was read as one with these columns. For a fault of
 /// the header the columns don't count: the header isn't that of any version. It fails only if the writer does; then a prefix
 /// of the note may be written.
-pub fn note_table<O: Opener, N: Write>(
+pub fn note_table<O: Files, N: Write>(
     alloc: Global,
     fault: TableFault,
     columns: Columns,
@@ -315,6 +320,6 @@ pub fn note_table<O: Opener, N: Write>(
     print_note(Note::TableRecord(line, rule), notes)
 }
 
-fn line_again<O: Opener>(alloc: Global, record: u64, table: &str, opener: &O) -> Option<u64> {
+fn line_again<O: Files>(alloc: Global, record: u64, table: &str, opener: &O) -> Option<u64> {
     line_after(alloc, opener.reader_again(table)?, record).ok()?
 }

@@ -6,7 +6,7 @@ use Rattle.lnt_wire.specs.declared.format.Format.{Format}
 use Rattle.lnt_wire.specs.declared.format.Order.{Order}
 use Rattle.lnt_header.specs.HeaderRules.{AreHeaderNumbers, IsAddressSize, single_bytes}
 use Rattle.lnt_header.specs.declared.header.Entry.{Entry}
-use Rattle.lnt_header.specs.declared.header.HeaderParts.{HeaderParts}
+use Rattle.lnt_header.specs.Parts.{HeaderParts}
 use Rattle.lnt_header_bytes.specs.HeaderFaults.{LengthsBytes}
 use Rattle.lnt_older.specs.Lists.{PassesList}
 use Rattle.lnt_older.specs.OlderBytes.{directory_pairs, file_pairs, older_bytes, OlderFieldsBytes, SaysOperations, OlderVersion}

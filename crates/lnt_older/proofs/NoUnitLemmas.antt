@@ -15,7 +15,7 @@ use Rattle.lnt_wire.proofs.FrameFaultLaws.IsFrameFaultAt.{outside_frame, in_vers
 use Rattle.lnt_wire.proofs.FrameLaws.{no_frame}
 use Rattle.lnt_wire.proofs.LengthLaws.{length-number_bytes, same_prefix, same_length, same_number_prefix, width_2}
 use Rattle.lnt_wire.proofs.ValueLaws.{offset_width}
-use Rattle.lnt_header.specs.declared.header.HeaderParts.{HeaderParts}
+use Rattle.lnt_header.specs.Parts.{HeaderParts}
 use Rattle.lnt_header_bytes.specs.HeaderBytes.{CountedBytes}
 use Rattle.lnt_header_bytes.proofs.HeaderLaws.{below}
 use Rattle.lnt_older.specs.OlderBytes.{older_body, OlderBytes, OlderFieldsBytes, version_number, OlderVersion}

@@ -7,7 +7,7 @@ use Rattle.lnt_wire.specs.declared.format.Format.{Format}
 use Rattle.lnt_wire.specs.declared.format.Order.{Order}
 use Rattle.lnt_wire.proofs.LengthLaws.{length-initial, same_number_prefix, width_2}
 use Rattle.lnt_header.specs.HeaderRules.{IsAddressSize}
-use Rattle.lnt_header.specs.declared.header.HeaderParts.{HeaderParts}
+use Rattle.lnt_header.specs.Parts.{HeaderParts}
 use Rattle.lnt_header_bytes.specs.HeaderBytes.{unit_body}
 use Rattle.lnt_older.specs.OlderUnits.{AnyBytes, AnyParts, ReadsFive, ReadsOlder, unit_header, OlderUnit}
 use Rattle.lnt_older.specs.OlderUnits.AnyParts.{five_parts, older_parts}

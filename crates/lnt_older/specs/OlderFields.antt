@@ -10,7 +10,7 @@ use Rattle.lnt_header.specs.FieldFaults.{FirstOf}
 use Rattle.lnt_header.specs.HeaderRules.{IsAddressSize, header_of as header_with}
 use Rattle.lnt_header.specs.Joins.{Both, Each}
 use Rattle.lnt_header.specs.declared.header.Entry.{Entry}
-use Rattle.lnt_header.specs.declared.header.HeaderParts.{HeaderParts}
+use Rattle.lnt_header.specs.Parts.{HeaderParts}
 use Rattle.lnt_header_bytes.specs.HeaderFaults.{LengthsBytes, IsLengthsFault}
 use Rattle.lnt_older.specs.Lists.{IsListFault}
 use Rattle.lnt_older.specs.OlderBytes.{directory_pairs, file_pairs, ListBytes, ListedBytes, OlderFieldsBytes, SaysOperations, OlderVersion}

@@ -10,7 +10,7 @@ use Rattle.lnt_wire.specs.declared.format.Format.{Format}
 use Rattle.lnt_wire.specs.declared.format.Order.{Order}
 use Rattle.lnt_header.specs.HeaderRules.{AreHeaderNumbers, IsAddressSize}
 use Rattle.lnt_header.specs.declared.header.Entry.{Entry}
-use Rattle.lnt_header.specs.declared.header.HeaderParts.{HeaderParts}
+use Rattle.lnt_header.specs.Parts.{HeaderParts}
 use Rattle.lnt_header_bytes.specs.HeaderFaults.{IsCountedFault}
 use Rattle.lnt_older.specs.OlderBytes.{body_bytes, OlderBytes, OlderBytesIn, version_number, OlderVersion}
 use Rattle.lnt_older.specs.OlderFields.{header_of, header_spelling, IsFieldsFault, ListsLie}

@@ -1,12 +1,12 @@
 -- Sections whose units are of versions 2 to 5, and the sections of version 5 that say the same (DWARF 2 to 5, section 6.2.4).
-use Rattle.std.specs.Prelude.{◌≡◌, ℕ, List, [], ◌∷◌, ◌++◌, length, Option, Some, None}
+use Rattle.std.specs.Prelude.{◌≡◌, ℕ, ◌<◌, List, [], ◌∷◌, ◌++◌, length, Option, Some, None}
 use Rattle.std.specs.List.{AllByRecursion}
 use Rattle.lnt_wire.specs.FrameBytes.{FrameBytes}
 use Rattle.lnt_wire.specs.Reading.{Refuses}
 use Rattle.lnt_wire.specs.declared.fault.Fault.{Fault}
 use Rattle.lnt_wire.specs.declared.format.Order.{Order}
 use Rattle.lnt_header.specs.Joins.{Each, PlacedFrom}
-use Rattle.lnt_header.specs.declared.header.HeaderParts.{HeaderParts}
+use Rattle.lnt_header.specs.Parts.{HeaderParts}
 use Rattle.lnt_header_bytes.specs.HeaderBytes.{HeaderBytesIn}
 use Rattle.lnt_header_bytes.specs.HeaderReading.{standing}
 use Rattle.lnt_older.specs.OlderBytes.{OlderBytesIn, OlderVersion}
@@ -57,11 +57,12 @@ pub record IsUpgraded (order : Order) (address_size : ℕ) (directories : List D
 
 -- ---- why there is none
 
--- After some units comes none, for this reason.
+-- After some units more bytes follow, and they begin with none, for this reason.
 pub record IsBroken (order : Order) (section : List ℕ) (fault : Fault) : Type 0 where
   pub units : List (ℕ × AnyParts)
   pub prefix : List ℕ
   pub rest : List ℕ
+  pub some : 0 < length rest
   pub joined : section ≡ prefix ++ rest
   pub sound : AnySection order units prefix
   pub refused : Refuses (IsAnyFault order) (AnyBytes order) (standing (length prefix) rest order) fault

@@ -1,4 +1,4 @@
--- What the steps of reading an operation have found. No public contract speaks of it.
+-- What the steps of reading an operation have found. Public contracts speak of `GivesOp` alone.
 use Rattle.lnt_wire.specs.Reading.{At, Reads}
 use Rattle.lnt_header.specs.declared.numbers.NumberParts.{NumberParts}
 use Rattle.lnt_header.specs.declared.op.Op.{Op}

@@ -1,4 +1,4 @@
--- What is remembered of paths that were compared. No public contract speaks of it.
+-- What is remembered of paths that were compared.
 use Rattle.std.specs.Prelude.{◌≡◌, ◌≢◌, ℕ, List, Option, IfSome, MatchBool, All}
 use Rattle.lnt_records.specs.declared.by_path.kept.FileText.{FileText}
 use Rattle.lnt_records.specs.declared.by_path.kept.FileTexts.{FileTexts}

@@ -1,4 +1,4 @@
--- A table that is parsed line by line. No public contract speaks of it.
+-- A table that is parsed line by line. Public contracts speak of the line of a span alone.
 use Rattle.std.specs.Prelude.{◌≡◌, ℕ, Bool, List, [], ◌∷◌, ◌++◌, Option, Some, None}
 use Rattle.lnt_text.specs.Digits.{IsAddress, IsDecimal, IsPlainAddress, IsPlainDecimal}
 use Rattle.lnt_spans.specs.declared.answer.Answer.{Answer}

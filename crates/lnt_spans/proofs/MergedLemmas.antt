@@ -9,6 +9,7 @@ use Rattle.lnt_spans.specs.Partial.{addresses_answered, addresses_between, IsRig
 use Rattle.lnt_spans.specs.Differences.{IsFirstDifference}
 use Rattle.lnt_spans.specs.Merged.{AnswersNothing, AreCounted, AreMergedBy, ArePassed, BeginFrom, HasGap, HasMerged}
 use Rattle.lnt_spans.specs.Merged.{HasOneMore, IsMistakenIn, Says, answer_told, until}
+use Rattle.lnt_spans.specs.Laws.{AnswersMore}
 use Rattle.lnt_spans.specs.Positions.{IsBelow, IsAtMost, Position}
 use Rattle.lnt_spans.specs.Spans.{number_spans, AreInOrder, span_answer, Answer, Span}
 use Rattle.lnt_spans.proofs.AheadLaws.{left_first}
@@ -192,6 +193,15 @@ until_below to p answers h = rw (test_below p to h) refl
 pub until_from : {X : Type 0} (to p : Position) (answers : Position → Option X) → IsAtMost to p → until to answers p ≡ None
 until_from to p answers h = rw (test_not_below p to h) refl
 
+-- nothing is answered from a position on
+pub all_counted : {X : Type 0} (f : Position → Option X) (at : Position) → ((p : Position) → IsAtMost at p → f p ≡ None)
+    → addresses_answered (until at f) ≡ addresses_answered f
+all_counted f at none =
+    same_addresses (until at f) f (λ p. elim (order_cases p at) [
+      | inl early ↦ ap is_some (until_below at p f early)
+      | inr late ↦ ap is_some (until_from at p f late ∙ sym (none p late))
+    ])
+
 -- nothing is missed where the section doesn't answer, nor where the table does
 pub missed_unanswered : {X : Type 0} (by_table by_section : Position → Option X) (p : Position) → by_section p ≡ None
     → where_missed by_table by_section p ≡ None
@@ -206,12 +216,18 @@ pub missed_here : {X : Type 0} (by_table by_section : Position → Option X) (p 
     → where_missed by_table by_section p ≡ by_section p
 missed_here by_table by_section p e = ap (λ table. where_none table (by_section p)) e
 
+-- the same addresses are answered up to two positions, if none is answered between them
+pub unanswered_same : {X : Type 0} (answers : Position → Option X) (at to : Position) → IsAtMost at to
+    → ((p : Position) → IsAtMost at p → IsBelow p to → answers p ≡ None)
+    → addresses_answered (until at answers) ≡ addresses_answered (until to answers)
+unanswered_same answers at to le none =
+    grind (arith, common_steps, same_addresses, order_cases, until_below, below_at_most, until_from)
+
 -- the same addresses are missed up to two positions, if none is between them
 pub missed_same : {X : Type 0} (by_table by_section : Position → Option X) (at to : Position) → IsAtMost at to
     → ((p : Position) → IsAtMost at p → IsBelow p to → where_missed by_table by_section p ≡ None)
     → addresses_answered (until at (where_missed by_table by_section)) ≡ addresses_answered (until to (where_missed by_table by_section))
-missed_same by_table by_section at to le none =
-    grind (arith, common_steps, same_addresses, order_cases, until_below, below_at_most, until_from)
+missed_same by_table by_section at to le none = unanswered_same (where_missed by_table by_section) at to le none
 
 -- those of the next span, up to `end` in it
 missed_span : {X : Type 0} (tell : Answer → X) (list : List Span) (by_table : Position → Option X) (at end : Position)
@@ -391,15 +407,37 @@ said_found tell list by_table low high said says p h k = grind (arith, common_st
 
 -- ---- one more record
 
+-- one record answers in addition to those before it
+more_answered : {X : Type 0} (old new : Position → Option X) (at low high : Position) (said : X) → IsAtMost at low → IsBelow low high
+    → ((p : Position) → IsAtMost at p → old p ≡ None) → HasOneMore old new at low high said → AnswersMore old new low high
+more_answered old new at low high said le lt ended more = record {
+  added = λ p h k. ap is_some (more.says p h k);
+  unanswered = λ p h k. ended p (at_most_trans le h);
+  below = λ p h. elim (order_cases p at) [
+    | inl early ↦ ap is_some (more.before p early)
+    | inr late ↦ ap is_some (more.gap p late h ∙ sym (ended p late))
+  ];
+  above = λ p h. ap is_some (more.ended p h ∙ sym (ended p (at_most_trans le (at_most_trans (below_is_at_most lt) h))));
+}
+
+-- the addresses of a record are added
+pub answered_more : {X : Type 0} (old new : Position → Option X) (at low high : Position) (said : X) (before after : ℕ) → IsAtMost at low
+    → IsBelow low high → ((p : Position) → IsAtMost at p → old p ≡ None) → HasOneMore old new at low high said
+    → before ≡ addresses_answered old
+    → (before + addresses_between low high ≤ 2 ^ 64 → after ≡ before + addresses_between low high) → after ≡ addresses_answered new
+answered_more old new at low high said before after le lt ended more is adds =
+    count_more new before (addresses_answered old) after low high
+    (added_range old new low high (more_answered old new at low high said le lt ended more)) is adds
+
 -- nothing was found in the records so far, as which the spans answer up to the end of the last
 pub merged_past : {S D X : Type 0} (to_come : S → List Span → Type 0) (tell : Answer → X) (value_of : D → Stretch X) (merge : Merge S D)
     (list : List Span) (by_table : Position → Option X) → merge.gap ≡ None → merge.mistake ≡ None → merge.missed ≡ 0
-    → ((p : Position) → IsAtMost merge.at p → by_table p ≡ None)
+    → merge.answered ≡ addresses_answered by_table → ((p : Position) → IsAtMost merge.at p → by_table p ≡ None)
     → ((p : Position) → IsBelow p merge.at → answer_told tell list p ≡ by_table p) → (rest : List Span) → IsAhead to_come merge.spans rest
     → AreInOrder rest → BeginFrom merge.at rest
     → ((p : Position) → IsAtMost merge.at p → span_answer list p ≡ span_answer rest p)
     → HasMerged to_come tell value_of merge list by_table
-merged_past {S} {D} {X} to_come tell value_of merge list by_table gap mistake missed ended agree rest left order from same =
+merged_past {S} {D} {X} to_come tell value_of merge list by_table gap mistake missed answered ended agree rest left order from same =
     grind (arith, common_steps, no_addresses, order_cases, until_below, until_from, none_missed)
 
 right_moved : {X : Type 0} (old new by_section : Position → Option X) (p : Position) → new p ≡ old p → IsRightAt old by_section p
@@ -411,13 +449,30 @@ gap_moved : {X : Type 0} (gap : Option (Stretch X)) (tell : Answer → X) (list 
 gap_moved gap tell list old new to same h = grind (arith, common_steps, below_at_most, below_is_at_most)
 
 -- a mistake was found before
-pub merged_still : {S D X : Type 0} (to_come : S → List Span → Type 0) (tell : Answer → X) (value_of : D → Stretch X) (old new : Merge S D)
+still_merged : {S D X : Type 0} (to_come : S → List Span → Type 0) (tell : Answer → X) (value_of : D → Stretch X) (old new : Merge S D)
     (spans : List Span) (by_table by_more : Position → Option X) (low high : Position) (said : X) → true ≡ is_some old.mistake
     → new.mistake ≡ old.mistake → new.gap ≡ old.gap → new.at ≡ high → IsAtMost old.at low → IsBelow low high
     → HasOneMore by_table by_more old.at low high said
-    → HasMerged to_come tell value_of old spans by_table → HasMerged to_come tell value_of new spans by_more
-merged_still {S} {D} {X} to_come tell value_of old new spans by_table by_more low high said some mistake gap at le lt more m =
+    → HasMerged to_come tell value_of old spans by_table
+    → ((p : Position) → IsAtMost new.at p → by_more p ≡ None)
+    × AreMergedBy (option_map value_of new.mistake) (option_map value_of new.gap) tell spans by_more new.at (IsAhead to_come new.spans)
+    new.missed
+still_merged {S} {D} {X} to_come tell value_of old new spans by_table by_more low high said some mistake gap at le lt more m =
     grind (arith, common_steps, true≢false, right_moved, below_at_most, below_is_at_most, at_most_trans, gap_moved)
+
+pub merged_still : {S D X : Type 0} (to_come : S → List Span → Type 0) (tell : Answer → X) (value_of : D → Stretch X) (old new : Merge S D)
+    (spans : List Span) (by_table by_more : Position → Option X) (low high : Position) (said : X) → true ≡ is_some old.mistake
+    → new.mistake ≡ old.mistake → new.gap ≡ old.gap → new.at ≡ high → IsAtMost old.at low → IsBelow low high
+    → (old.answered + addresses_between low high ≤ 2 ^ 64 → new.answered ≡ old.answered + addresses_between low high)
+    → HasOneMore by_table by_more old.at low high said
+    → HasMerged to_come tell value_of old spans by_table → HasMerged to_come tell value_of new spans by_more
+merged_still {S} {D} {X} to_come tell value_of old new spans by_table by_more low high said some mistake gap at le lt adds more m =
+    let still = still_merged to_come tell value_of old new spans by_table by_more low high said some mistake gap at le lt more m in
+    record {
+      ended = still.0;
+      answered = answered_more by_table by_more old.at low high said old.answered new.answered le lt m.ended more m.answered adds;
+      merged = still.1;
+    }
 
 -- what is passed in a gap of the table
 abbrev pub PassesGap : {S D X : Type 0} → (S → List Span → Type 0) → (Answer → X) → (D → Stretch X) → Ahead S → Ahead S
@@ -440,13 +495,15 @@ FindsMistake {S} {D} {X} to_come tell value_of old new low high said found =
 pub merged_more : {S D X : Type 0} (to_come : S → List Span → Type 0) (tell : Answer → X) (value_of : D → Stretch X) (old new : Merge S D)
     (middle : Ahead S) (spans : List Span) (by_table by_more : Position → Option X) (low high : Position) (said : X)
     → false ≡ is_some old.mistake → new.at ≡ high → IsAtMost old.at low → IsBelow low high
+    → (old.answered + addresses_between low high ≤ 2 ^ 64 → new.answered ≡ old.answered + addresses_between low high)
     → PassesGap to_come tell value_of old.spans middle old.gap new.gap old.missed new.missed low
     → FindsMistake to_come tell value_of middle new.spans low high said new.mistake
     → HasOneMore by_table by_more old.at low high said
     → HasMerged to_come tell value_of old spans by_table → HasMerged to_come tell value_of new spans by_more
-merged_more {S} {D} {X} to_come tell value_of old new middle spans by_table by_more low high said none at le lt passes found more m =
+merged_more {S} {D} {X} to_come tell value_of old new middle spans by_table by_more low high said none at le lt adds passes found more m =
     record {
       ended = λ p h. more.ended p (subst (λ (q : Position). IsAtMost q p) at h);
+      answered = answered_more by_table by_more old.at low high said old.answered new.answered le lt m.ended more m.answered adds;
       merged = rw at (by_found new.mistake (found spans by_more more.says passed.0.passed));
     }
   where

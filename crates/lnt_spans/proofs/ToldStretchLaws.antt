@@ -22,7 +22,7 @@ in_last : {X : Type 0} (f g : Position → Option X) (told : List (Stretch X)) (
 in_last f g [] d p h = inl h
 in_last f g (e ∷ told) d p h = inr (in_last f g told d p h)
 
-all_push : {X : Type 0} (P : Stretch X → Type 0) (told : List (Stretch X)) (d : Stretch X) → AllByRecursion P told → P d
+pub all_push : {X : Type 0} (P : Stretch X → Type 0) (told : List (Stretch X)) (d : Stretch X) → AllByRecursion P told → P d
     → AllByRecursion P (told ++ d ∷ [])
 all_push P [] d h k = (k, tt)
 all_push P (e ∷ told) d h k = (h.0, all_push P told d h.1 k)

@@ -41,6 +41,16 @@ pub record IsInStretch {X : Type 0} (by_section by_table : Position → Option X
   pub stay : Stay by_section by_table stretch.by_section stretch.by_table stretch.position p
   pub here : AreAnswers by_section by_table stretch.by_section stretch.by_table p
 
+-- From the first position of the stretch up to a later one both answers stay the same.
+pub record LastsTo {X : Type 0} (by_section by_table : Position → Option X) (stretch : Stretch X) (to : Position) : Type 0 where
+  pub past : IsBelow stretch.position to
+  pub stay : Stay by_section by_table stretch.by_section stretch.by_table stretch.position to
+
+-- This is the first position after the stretch: both answers stay the same up to it, and there one of them is another.
+pub record EndsAt {X : Type 0} (by_section by_table : Position → Option X) (stretch : Stretch X) (end : Position) : Type 0 where
+  pub lasts : LastsTo by_section by_table stretch end
+  pub over : AreAnswers by_section by_table stretch.by_section stretch.by_table end → ⊥
+
 -- one of these stretches holds p
 abbrev pub IsInOne : {X : Type 0} → (Position → Option X) → (Position → Option X) → List (Stretch X) → Position → Type 0
 IsInOne by_section by_table [] p = ⊥

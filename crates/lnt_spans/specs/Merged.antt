@@ -73,6 +73,7 @@ end_of_records merge = merge.at
 pub record HasMerged {S D X : Type 0} (to_come : S → List Span → Type 0) (tell : Answer → X) (value_of : D → Stretch X) (merge : Merge S D)
     (spans : List Span) (by_table : Position → Option X) : Type 0 where
   pub ended : (p : Position) → IsAtMost merge.at p → by_table p ≡ None
+  pub answered : merge.answered ≡ addresses_answered by_table
   pub merged : AreMergedBy (option_map value_of merge.mistake) (option_map value_of merge.gap) tell spans by_table merge.at
       (IsAhead to_come merge.spans) merge.missed
 
@@ -107,7 +108,7 @@ abbrev pub missed_of : {D : Type 0} → Found D → Option ℕ
 missed_of found = unless found.mistake found.missed
 
 -- Where both sides answer alike at every position, there is no first difference; where the table is right wherever it answers, no
--- mistake. Without a mistake, the section answers at this many addresses at which the table doesn't.
+-- mistake. Without a mistake, the section answers at this many addresses, and at this many at which the table doesn't.
 pub record AreFound {D X : Type 0} (value_of : D → Stretch X) (by_section by_table : Position → Option X) (found : Found D) : Type
     0 where
   pub first : MatchOption (first_of found) ((p : Position) → by_section p ≡ by_table p)
@@ -115,3 +116,4 @@ pub record AreFound {D X : Type 0} (value_of : D → Stretch X) (by_section by_t
   pub mistake : MatchOption found.mistake (IsRightWherever by_table by_section)
       (λ mistake. IsFirstMistake by_table by_section (value_of mistake))
   pub missed : found.mistake ≡ None → found.missed ≡ addresses_answered (where_missed by_table by_section)
+  pub all : found.mistake ≡ None → found.all ≡ addresses_answered by_section

@@ -1,5 +1,5 @@
 -- What the bodies of this crate say of one step. No public contract speaks of it.
-use Rattle.std.specs.Prelude.{ℕ, ◌<◌, ◌≤◌, List, get_or, length, ◌≡◌, ◌≢◌, ◌⊎◌, Bool, ◌&&◌, cond, is_some, is_none, [], ◌∷◌, ◌++◌, Option}
+use Rattle.std.specs.Prelude.{ℕ, ◌<◌, ◌≤◌, List, get_or, length, ◌≡◌, ◌≢◌, ◌⊎◌, Bool, false, ◌&&◌, cond, is_some, is_none, [], ◌∷◌, ◌++◌, Option}
 use Rattle.std.specs.Prelude.{Some, None, MatchBool, option_map}
 use Rattle.lnt_spans.specs.Positions.{IsBelow, IsAtMost, Position}
 use Rattle.lnt_spans.specs.declared.any_stretches.Step.{Step}
@@ -7,7 +7,7 @@ use Rattle.lnt_spans.specs.declared.runs.Run.{Run}
 use Rattle.lnt_spans.specs.AnyStretches.{AreAllStretches, Stretch, stretch_at}
 use Rattle.lnt_spans.specs.Partial.{addresses_answered, addresses_between, where_missed}
 use Rattle.lnt_spans.specs.Runs.{IsBefore, IsUpTo, runs_left, Answer, Span}
-use Rattle.lnt_spans.specs.Stretching.{HasGiven, Stretches}
+use Rattle.lnt_spans.specs.Stretching.{IsGoing, HasGiven, Stretches}
 
 -- ---- the state of a bisection over spans in order: which spans may still hold the position. Bodies here
 -- and in lnt_ffi bisect so, and no public contract speaks of it.
@@ -49,19 +49,28 @@ IsKnown known section table section_before table_before = MatchBool known
     ((section ≡ table) ⊎ (section ≡ section_before) × (table ≡ table_before))
     ((table ≢ section) × (section ≡ section_before → table ≡ table_before → ⊥))
 
+-- how many addresses are answered from `at` up to `end`, where a side has this answer
+abbrev pub answered_between : {X : Type 0} → Option X → Position → Position → ℕ
+answered_between answer at end = cond (is_some answer) (addresses_between at end) 0
+
 -- how many addresses are missed from `at` up to `end`, where the two sides have these answers
 abbrev pub missed_between : {X Y : Type 0} → Option X → Option Y → Position → Position → ℕ
 missed_between of_section of_table at end = cond (is_some of_section && is_none of_table) (addresses_between at end) 0
 
+-- the stretch that begins with this step, if one does
+abbrev pub stretch_of_step : {A X : Type 0} → (Answer → X) → (A → X) → Step A → Stretch X
+stretch_of_step tell said step = stretch_at step.at (option_map tell step.both.section) (option_map said step.both.table)
+
 -- the stretches given, with the one that begins with this step, if one does
 abbrev pub told_with : {A X : Type 0} → (Answer → X) → (A → X) → List (Stretch X) → Step A → List (Stretch X)
 told_with tell said given step = cond step.is_known given
-    (given ++ stretch_at step.at (option_map tell step.both.section) (option_map said step.both.table) ∷ [])
+    (given ++ stretch_of_step tell said step ∷ [])
 
 -- what holds after one step, by what it found
 abbrev pub StretchStep : {S N A V X : Type 0} → (S → List Span → Type 0) → (N → Position → (Position → Option V) → Type 0) → (A → V)
     → (Answer → X) → (A → X) → Stretches S N A → (Position → Option X) → (Position → Option X) → List (Stretch X) → Option (Step A) → Type 0
 StretchStep to_come is_at value_of tell said stretches by_section by_table given None = AreAllStretches by_section by_table given
-    × (stretches.missed ≡ addresses_answered (where_missed by_table by_section))
+    × (stretches.missed ≡ addresses_answered (where_missed by_table by_section)) × (stretches.all ≡ addresses_answered by_section)
 StretchStep to_come is_at value_of tell said stretches by_section by_table given (Some step) =
     HasGiven to_come is_at value_of tell said stretches by_section by_table (told_with tell said given step)
+    × (step.is_known ≡ false → IsGoing tell said stretches by_section by_table (stretch_of_step tell said step))

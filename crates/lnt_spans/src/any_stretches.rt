@@ -2,11 +2,11 @@
 ghost use Rattle.std.specs.Prelude.{◌≡◌, ◌≢◌, ◌⊎◌, ◌+◌, ◌^◌, ◌<◌, ◌≤◌, List, ◌∷◌, ◌++◌, [], None, Option, Some, MatchOption, IfOk, IfSome};
 ghost use Rattle.std.specs.Prelude.{OnOk, MatchBool, option_map};
 ghost use Rattle.lnt_spans.specs.declared.position.Position as spec_position;
-ghost use Rattle.lnt_spans.specs.AnyStretches.{AreAllStretches, Stretch};
+ghost use Rattle.lnt_spans.specs.AnyStretches.{AreAllStretches, EndsAt, Stretch};
 ghost use Rattle.lnt_spans.specs.Partial.{addresses_answered, where_missed};
 ghost use Rattle.lnt_spans.specs.Runs.{IsBefore, IsUpTo};
-ghost use Rattle.lnt_spans.specs.Stepping.{HasFewerOrEnds, HasGivenIn, IsInRun, IsKnown, StretchStep, missed_between};
-ghost use Rattle.lnt_spans.specs.Stretching.{HasBegun, HasGiven, stretches_to_give};
+ghost use Rattle.lnt_spans.specs.Stepping.{HasFewerOrEnds, HasGivenIn, IsInRun, IsKnown, StretchStep, answered_between, missed_between};
+ghost use Rattle.lnt_spans.specs.Stretching.{HasBegun, HasGiven, IsGoing, stretches_to_give};
 
 use crate::ahead::Ahead;
 use crate::answer::Answer;
@@ -29,7 +29,9 @@ pub struct Stretches<S, N, A> {
     at: Position,
     // both answers right below `at`
     before: Both<A>,
-    // the addresses below `at` at which the section answers and the table doesn't
+    // the addresses below `at` at which the section answers
+    all: u128,
+    // those of them at which the table doesn't
     missed: u128,
 }
 
@@ -50,9 +52,9 @@ struct Step<A> {
 }
 
 impl<S: SpanSource, N, A> Stretches<S, N, A> {
-    /// Starts at `at`, with no stretch given yet.
-    pub fn past(section: S, table: N, at: Position) -> Stretches<S, N, A>
-        ensures { HasBegun S.to_come section table at result }
+    /// Starts at `at`, with no stretch given yet. Below `at` both sides answer at this many addresses, and alike.
+    pub fn past(section: S, table: N, at: Position, answered: u128) -> Stretches<S, N, A>
+        ensures { HasBegun S.to_come section table at answered result }
     {
         Stretches {
             section: Ahead::of(section),
@@ -62,8 +64,16 @@ impl<S: SpanSource, N, A> Stretches<S, N, A> {
                 section: None,
                 table: None,
             },
+            all: answered,
             missed: 0,
         }
+    }
+
+    /// The number of addresses, among those that were compared, at which the section answers.
+    pub fn all(&self) -> u128
+        ensures { result ≡ self.now.all }
+    {
+        self.all
     }
 
     /// The number of addresses, among those that were compared, at which the section answers and the table doesn't.
@@ -75,7 +85,8 @@ impl<S: SpanSource, N, A> Stretches<S, N, A> {
 }
 
 /// Gives the next stretch: its first position and the two answers. `None` once all were given; those are then exactly the
-/// stretches, in ascending order, and all addresses were compared. After an error nothing is known of the state.
+/// stretches, in ascending order, and all addresses were compared. `stretch_end` passes the rest of the stretch. After an error
+/// nothing is known of the state.
 pub fn next_stretch<S: SpanSource, N: Runs<T::Said>, T: Telling>(
     stretches: &mut Stretches<S, N, T::Said>,
     telling: &T,
@@ -89,9 +100,13 @@ pub fn next_stretch<S: SpanSource, N: Runs<T::Said>, T: Telling>(
     ensures given { IfOk result (λ found. (by_section by_table : spec_position.Position → Option T.Told) (given : List (Stretch T.Told))
         → HasGiven S.to_come N.is_at N.value_of (T.tell telling.now) T.said stretches.old by_section by_table given
         → MatchOption found (AreAllStretches by_section by_table given
-        × (stretches.new.missed ≡ addresses_answered (where_missed by_table by_section)))
+        × (stretches.new.missed ≡ addresses_answered (where_missed by_table by_section))
+        × (stretches.new.all ≡ addresses_answered by_section))
         (λ difference. HasGiven S.to_come N.is_at N.value_of (T.tell telling.now) T.said stretches.new by_section by_table
         (given ++ T.value_of difference ∷ []))) }
+    ensures going { IfOk result (λ found. (by_section by_table : spec_position.Position → Option T.Told) (given : List (Stretch T.Told))
+        → HasGiven S.to_come N.is_at N.value_of (T.tell telling.now) T.said stretches.old by_section by_table given
+        → IfSome found (λ difference. IsGoing (T.tell telling.now) T.said stretches.new by_section by_table (T.value_of difference))) }
     ensures fewer { IfOk result (λ found. IfSome found (λ _.
         stretches_to_give S.left N.runs stretches.new < stretches_to_give S.left N.runs stretches.old)) }
 {
@@ -102,6 +117,77 @@ pub fn next_stretch<S: SpanSource, N: Runs<T::Said>, T: Telling>(
         }
     }
     Ok(None)
+}
+
+/// Passes the rest of the stretch that was given last, and gives its end: the first position after it. After an error nothing is
+/// known of the state.
+pub fn stretch_end<S: SpanSource, N: Runs<T::Said>, T: Telling>(
+    stretches: &mut Stretches<S, N, T::Said>,
+    telling: &T,
+    memory: &mut T::Memory,
+) -> Result<Position, T::Refusal>
+    requires sound { T.is_sound telling.now memory.old }
+    requires given { (by_section : spec_position.Position → Option T.Told) × (by_table : spec_position.Position → Option T.Told)
+        × (given : List (Stretch T.Told))
+        × HasGiven S.to_come N.is_at N.value_of (T.tell telling.now) T.said stretches.old by_section by_table given }
+    ensures sound { OnOk result (T.is_sound telling.now memory.new) }
+    ensures given { OnOk result ((by_section by_table : spec_position.Position → Option T.Told) (given : List (Stretch T.Told))
+        → HasGiven S.to_come N.is_at N.value_of (T.tell telling.now) T.said stretches.old by_section by_table given
+        → HasGiven S.to_come N.is_at N.value_of (T.tell telling.now) T.said stretches.new by_section by_table given) }
+    ensures end { IfOk result (λ end. (by_section by_table : spec_position.Position → Option T.Told) (given : List (Stretch T.Told))
+        (last : Stretch T.Told)
+        → HasGiven S.to_come N.is_at N.value_of (T.tell telling.now) T.said stretches.old by_section by_table given
+        → IsGoing (T.tell telling.now) T.said stretches.old by_section by_table last → EndsAt by_section by_table last end) }
+    ensures fewer { OnOk result (stretches_to_give S.left N.runs stretches.new ≤ stretches_to_give S.left N.runs stretches.old) }
+{
+    while goes_on(stretches, telling, memory)? {}
+    Ok(stretches.at)
+}
+
+// Steps to the next position at which an answer may end, if both are the same as before.
+fn goes_on<S: SpanSource, N: Runs<T::Said>, T: Telling>(
+    stretches: &mut Stretches<S, N, T::Said>,
+    telling: &T,
+    memory: &mut T::Memory,
+) -> Result<bool, T::Refusal>
+    requires sound { T.is_sound telling.now memory.old }
+    requires given { (by_section : spec_position.Position → Option T.Told) × (by_table : spec_position.Position → Option T.Told)
+        × (given : List (Stretch T.Told))
+        × HasGiven S.to_come N.is_at N.value_of (T.tell telling.now) T.said stretches.old by_section by_table given }
+    ensures sound { OnOk result (T.is_sound telling.now memory.new) }
+    ensures given { OnOk result ((by_section by_table : spec_position.Position → Option T.Told) (given : List (Stretch T.Told))
+        → HasGiven S.to_come N.is_at N.value_of (T.tell telling.now) T.said stretches.old by_section by_table given
+        → HasGiven S.to_come N.is_at N.value_of (T.tell telling.now) T.said stretches.new by_section by_table given) }
+    ensures on { IfOk result (λ on. (by_section by_table : spec_position.Position → Option T.Told) (given : List (Stretch T.Told))
+        (last : Stretch T.Told)
+        → HasGiven S.to_come N.is_at N.value_of (T.tell telling.now) T.said stretches.old by_section by_table given
+        → IsGoing (T.tell telling.now) T.said stretches.old by_section by_table last
+        → MatchBool on (IsGoing (T.tell telling.now) T.said stretches.new by_section by_table last)
+        (EndsAt by_section by_table last stretches.new.at)) }
+    ensures fewer { IfOk result (λ on. MatchBool on
+        (stretches_to_give S.left N.runs stretches.new < stretches_to_give S.left N.runs stretches.old)
+        (stretches.new ≡ stretches.old)) }
+{
+    let at = stretches.at;
+    let section = stretches.section.run_at(at);
+    let table = stretches.table.run_at(at);
+    let Some(end) = earlier_end(section.end, table.end) else {
+        return Ok(false);
+    };
+    let both = Both {
+        section: section.answer,
+        table: table.answer,
+    };
+    if !are_as_before(telling, memory, both, stretches.before)? {
+        return Ok(false);
+    }
+    stretches.table.pass_to(end);
+    stretches.section.pass_to(end);
+    stretches.at = end;
+    stretches.before = both;
+    count_answered(&mut stretches.all, both.section, at, end);
+    count_missed(&mut stretches.missed, both, at, end);
+    Ok(true)
 }
 
 // Steps through a run of the table, up to the first position in it at which a stretch begins, or up to its end. What was compared
@@ -183,8 +269,20 @@ fn take_step<S: SpanSource, N: Runs<T::Said>, T: Telling>(
     stretches.section.pass_to(end);
     stretches.at = end;
     stretches.before = both;
+    count_answered(&mut stretches.all, both.section, at, end);
     count_missed(&mut stretches.missed, both, at, end);
     Ok(Some(Step { at, both, is_known }))
+}
+
+// Adds the addresses from a position up to another, if a side answers there.
+#[inline(always)]
+fn count_answered<A: Copy>(answered: &mut u128, answer: Option<A>, at: Position, end: Position)
+    ensures { answered.old + answered_between answer at end ≤ 2 ^ 64
+        → answered.new ≡ answered.old + answered_between answer at end }
+{
+    if answer.is_some() {
+        add_between(answered, at, end);
+    }
 }
 
 // The earlier of two ends; `None` if both are.
@@ -230,6 +328,25 @@ fn is_known<T: Telling>(
     if are_alike(telling, memory, recalled, both)? {
         return Ok(true);
     }
+    are_as_before(telling, memory, both, before)
+}
+
+// Whether both answers are the same as before.
+#[inline(always)]
+fn are_as_before<T: Telling>(
+    telling: &T,
+    memory: &mut T::Memory,
+    both: Both<T::Said>,
+    before: Both<T::Said>,
+) -> Result<bool, T::Refusal>
+    requires { T.is_sound telling.now memory.old }
+    ensures sound { OnOk result (T.is_sound telling.now memory.new) }
+    ensures same { IfOk result (λ same. MatchBool same
+        ((option_map (T.tell telling.now) both.section ≡ option_map (T.tell telling.now) before.section)
+        × (option_map T.said both.table ≡ option_map T.said before.table))
+        (option_map (T.tell telling.now) both.section ≡ option_map (T.tell telling.now) before.section
+        → option_map T.said both.table ≢ option_map T.said before.table)) }
+{
     if !is_as_held(telling, both.table, before.table) {
         return Ok(false);
     }

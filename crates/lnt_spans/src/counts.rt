@@ -8,11 +8,11 @@ ghost use Rattle.lnt_spans.specs.Spans.{AreInOrder, span_answer};
 use crate::position::Position;
 use crate::source::SpanSource;
 
-// Adds the addresses in the half-open range of positions from `low` up to `high` to a number of addresses, as `count_between`
-// counts them. The sum is right as long as it is at most 2^64, as it is if no two ranges hold the same address. There are 2^64
-// addresses, so a `u64` doesn't hold every such number.
+/// Adds the addresses in the half-open range of positions from `low` up to `high` to a number of addresses: those whose position with
+/// operation index 0 is in the range. The sum is right as long as it is at most 2^64, as it is if no two ranges hold the same address.
+/// There are 2^64 addresses, so a `u64` doesn't hold every such number.
 #[inline(always)]
-pub(crate) fn add_between(count: &mut u128, low: Position, high: Position)
+pub fn add_between(count: &mut u128, low: Position, high: Position)
     ensures { count.old + addresses_between low high ≤ 2 ^ 64 → count.new ≡ count.old + addresses_between low high }
 {
     *count = count.saturating_add(count_between(low, high));

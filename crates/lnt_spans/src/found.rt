@@ -11,6 +11,8 @@ pub struct Found<D> {
     pub(crate) mistake: Option<D>,
     // at how many addresses the section answers and the table doesn't, if there is no mistake
     pub(crate) missed: u128,
+    // at how many addresses the section answers, if there is no mistake
+    pub(crate) all: u128,
 }
 
 impl<D: Drop> Found<D> {
@@ -38,5 +40,12 @@ impl<D: Drop> Found<D> {
             Some(_) => None,
             None => Some(self.missed),
         }
+    }
+
+    /// The number of addresses, from 0 to 2^64 - 1, at which the section answers with operation index 0, unless there is a mistake.
+    pub fn all(&self) -> u128
+        ensures { result ≡ self.now.all }
+    {
+        self.all
     }
 }

@@ -1,5 +1,5 @@
 //! Finds where a section and a table first answer differently, and where the table is first wrong, in one pass over both.
-ghost use Rattle.std.specs.Prelude.{◌≡◌, List, Option, IfOk, IfSome, MatchOption, None, OnOk, Some, option_map};
+ghost use Rattle.std.specs.Prelude.{◌≡◌, ◌+◌, ◌^◌, ◌≤◌, List, Option, IfOk, IfSome, MatchOption, None, OnOk, Some, option_map};
 ghost use Rattle.lnt_spans.specs.declared.answer.Answer.{Answer as SpecAnswer};
 ghost use Rattle.lnt_spans.specs.declared.position.Position as spec_position;
 ghost use Rattle.lnt_spans.specs.declared.span.Span as spec;
@@ -32,15 +32,18 @@ pub struct Merge<S, D> {
     mistake: Option<D>,
     // the addresses below `at` at which the section answers and the table doesn't, if there is no mistake
     missed: u128,
+    // the addresses at which the table answers
+    answered: u128,
 }
 
 impl<S: SpanSource + Drop, D: Drop> Merge<S, D> {
-    /// No difference was found below `at`, and the source gives the spans from there on.
-    pub fn past(spans: S, at: Position) -> Merge<S, D>
+    /// No difference was found below `at`, where the table answers at this many addresses. The source gives the spans from there on.
+    pub fn past(spans: S, at: Position, answered: u128) -> Merge<S, D>
         ensures at { end_of_records result ≡ at }
         ensures gap { result.gap ≡ None }
         ensures mistake { result.mistake ≡ None }
         ensures missed { result.missed ≡ 0 }
+        ensures answered { result.answered ≡ answered }
         ensures ahead { (list : List spec.Span) → S.to_come spans list → IsAhead S.to_come result.spans list }
     {
         Merge {
@@ -49,6 +52,7 @@ impl<S: SpanSource + Drop, D: Drop> Merge<S, D> {
             gap: None,
             mistake: None,
             missed: 0,
+            answered,
         }
     }
 
@@ -81,6 +85,7 @@ impl<S: SpanSource + Drop, D: Drop> Merge<S, D> {
             → HasMerged S.to_come (T.tell telling.now) T.value_of self.new spans by_more) }
     {
         self.at = high;
+        add_between(&mut self.answered, low, high);
         if self.mistake.is_some() {
             return Ok(());
         }
@@ -106,6 +111,7 @@ impl<S: SpanSource + Drop, D: Drop> Merge<S, D> {
             gap,
             mistake,
             mut missed,
+            answered,
             ..
         } = self;
         let next = if mistake.is_some() { None } else { spans.next };
@@ -114,6 +120,7 @@ impl<S: SpanSource + Drop, D: Drop> Merge<S, D> {
                 gap,
                 mistake,
                 missed,
+                all: sum(answered, missed),
             });
         };
         let gap = match gap {
@@ -121,12 +128,21 @@ impl<S: SpanSource + Drop, D: Drop> Merge<S, D> {
             None => telling.difference(span.low, None, Some(span.answer))?,
         };
         add_between(&mut missed, span.low, span.high);
+        let missed = count_rest(spans.spans, missed);
         Ok(Found {
             gap: Some(gap),
             mistake: None,
-            missed: count_rest(spans.spans, missed),
+            missed,
+            all: sum(answered, missed),
         })
     }
+}
+
+// The sum of two numbers of addresses.
+fn sum(one: u128, other: u128) -> u128
+    ensures { one + other ≤ 2 ^ 64 → result ≡ one + other }
+{
+    one.saturating_add(other)
 }
 
 // Passes the spans of a section in a gap of the table, up to its end, and counts their addresses. If they are the first, `gap` is

@@ -1,13 +1,11 @@
 -- What a comparison of a table with the lines of a good section says of the two.
-use Rattle.std.proofs.Common.{◌≡◌, ℕ, List, Option, Some, None, ap, is_some, refl, option_map}
+use Rattle.std.proofs.Common.{◌≡◌, ℕ, List, ap, option_map}
 use Rattle.lnt_spans.specs.declared.answer.Version.{Version}
 use Rattle.lnt_spans.specs.declared.difference.Difference.{Difference}
 use Rattle.lnt_spans.specs.declared.position.Position.{Position}
 use Rattle.lnt_spans.specs.declared.span.Span.{Span}
 use Rattle.lnt_spans.specs.Answers.{in_version}
-use Rattle.lnt_spans.specs.Partial.{addresses_answered}
 use Rattle.lnt_spans.specs.Spans.{span_answer, version_answer}
-use Rattle.lnt_spans.proofs.CountLemmas.{same_addresses}
 use Rattle.lnt_sequences.specs.Sequences.{line_answer, Selection}
 use Rattle.lnt_records.specs.declared.fault.TableFault.TheVariants as fault
 use Rattle.lnt_compare.specs.declared.outcome.Compared.{Compared}
@@ -25,15 +23,6 @@ use Rattle.lnt_table.specs.Verdicts.{verdict_of}
 pub told_so : (version : Version) (selection : Selection) (spans : List Span) → ((p : Position)
     → span_answer spans p ≡ line_answer selection p) → (p : Position) → version_answer version spans p ≡ told_answer version selection p
 told_so version selection spans same p = ap (option_map (in_version version)) (same p)
-
--- what a table contains of answers is answered at as many addresses
-pub told_addresses : {X Y : Type 0} (tell : Y → X) (answers : Position → Option Y)
-    → addresses_answered answers ≡ addresses_answered (λ p. option_map tell (answers p))
-told_addresses {X} {Y} tell answers = same_addresses answers (λ p. option_map tell (answers p)) (λ p. told (answers p))
-  where
-    told : (answer : Option Y) → is_some answer ≡ is_some (option_map tell answer)
-    told None = refl
-    told (Some answer) = refl
 
 -- ---- what a comparison says
 

@@ -1,14 +1,13 @@
 -- What a comparison of a table of any version with a good section says of the two.
 use Rattle.lnt_spans.specs.SpanKinds.{answer_held}
-use Rattle.std.proofs.Common.{◌≡◌, ◌≢◌, ◌-◌, ◌++◌, ℕ, List, [], Option, Some, None, IfSome, arith, inl, inr, refl, subst, MatchOption}
+use Rattle.std.proofs.Common.{◌≡◌, ◌≢◌, ◌-◌, ◌++◌, ℕ, List, [], Option, Some, None, IfSome, arith, inl, inr, refl, subst, MatchOption, option_map}
 use Rattle.std.proofs.lemmas.Option.{IfSome_then}
 use Rattle.lnt_spans.specs.declared.difference.Difference.{Difference}
 use Rattle.lnt_spans.specs.declared.found.Found.{Found as FoundSpec}
 use Rattle.lnt_spans.specs.declared.position.Position.{Position}
 use Rattle.lnt_spans.specs.declared.span.Span.{Span}
-use Rattle.lnt_spans.specs.Answers.{in_version}
 use Rattle.lnt_spans.specs.Partial.{addresses_answered, AreCounts, IsFirstMistake, IsRightWherever, where_missed}
-use Rattle.lnt_spans.specs.Merged.{missed_of, unless}
+use Rattle.lnt_spans.specs.Merged.{unless}
 use Rattle.lnt_spans.specs.Spans.{span_answer}
 use Rattle.lnt_spans.proofs.PartialLemmas.{answered_and_missed}
 use Rattle.lnt_sequences.specs.Sequences.{line_answer, Selection}
@@ -28,7 +27,7 @@ use Rattle.lnt_compare.proofs.ComparedLaws.{compared_whole, outcome_so}
 use Rattle.lnt_compare.proofs.StreamLaws.{line_taken, not_header}
 use Rattle.lnt_compare.specs.declared.by_path.answer.DifferenceByPath.{DifferenceByPath}
 use Rattle.lnt_records.specs.declared.by_path.version.PathVersion.{PathVersion}
-use Rattle.lnt_records.specs.PathSpans.{path_answer, spans_by_path}
+use Rattle.lnt_records.specs.PathSpans.{spans_by_path}
 use Rattle.lnt_records.specs.PathTables.{path_column_names}
 use Rattle.lnt_records.proofs.PathLineLaws.{header_begins}
 use Rattle.lnt_lines.specs.declared.no.No.{No as SectionNo}
@@ -38,7 +37,7 @@ use Rattle.lnt_lines.specs.Good.{selected}
 use Rattle.lnt_lines.specs.Indexed.{Indexed, IsIndexOf, OfUnits}
 use Rattle.lnt_table.specs.Verdicts.{Checked, verdict_of}
 use Rattle.lnt_table.specs.declared.kinds.OfKind.TheVariants.{Numbered, ByPath}
-use Rattle.lnt_table.specs.Judged.{Judged, IsJudgedWith, covered_or, missed_in, part_checked, whole_checked, within_scope}
+use Rattle.lnt_table.specs.Judged.{Judged, IsJudgedWith, covered_or, coverage_in, coverage_of, part_checked, whole_checked, within_scope}
 use Rattle.lnt_table.specs.declared.kinds.OfKind.TheVariants as judged
 use Rattle.lnt_table.specs.declared.verdict.TableNo.TheVariants as no
 use Rattle.lnt_table.specs.declared.verdict.Verdict.TheVariants.{No}
@@ -49,9 +48,9 @@ use Rattle.lnt_table.specs.declared.within.Scope.{Scope}
 use Rattle.lnt_table.specs.declared.within.Scope.TheVariants.{All, Answered}
 use Rattle.lnt_table.specs.AnyVersion.{IsTrueCheck, IsTrueCheckOfSection, told_paths, coverage_but, IsMistakenOf, IsOfScope, IsRightOf}
 use Rattle.lnt_table.specs.AnyVersion.{IsTrueOfSectionWithin, IsTrueWithin}
-use Rattle.lnt_table.specs.Headline.{indexed_path, path_at, told_path, told_rows}
+use Rattle.lnt_table.specs.Headline.{indexed_path, told_path, told_rows}
 use Rattle.lnt_table.proofs.AnyLawLemmas.{names_differ}
-use Rattle.lnt_table.proofs.CheckLemmas.{compared_told, none_of_section, section_told, told_addresses, told_so}
+use Rattle.lnt_table.proofs.CheckLemmas.{compared_told, none_of_section, section_told, told_so}
 use Rattle.lnt_table.proofs.UnitPathLemmas.{told_by_units}
 
 -- ---- the comparison with an index
@@ -162,24 +161,25 @@ counts_of by_table by_section all missed section out =
 
 -- What was found says how much a table answers that is right wherever it answers, and else its first mistake.
 part_found : {V X Y D : Type 0} (kind : TableKind V X Y D) (section : V → Position → Option Y) (table : List ℕ) (found : FoundSpec D)
-    (all : ℕ) (checked : Option D → Checked) (IsSo : CheckedWithin → Type 0) → ((version : V) → all ≡ addresses_answered (section version))
+    (checked : Option D → Checked) (IsSo : CheckedWithin → Type 0)
     → ((coverage : Coverage) → IsRightOf kind section table coverage → IsSo (Covered coverage))
     → ((mistake : D) → IsMistakenOf kind section table mistake → IsSo (Told (checked (Some mistake))))
-    → IsOutcomeOf kind section table (Table found) → IsSo (covered_or (missed_of found) all (checked found.mistake))
-part_found {V} {X} {Y} {D} kind section table found all checked IsSo addresses right mistaken h = by_mistake found.mistake refl
+    → IsOutcomeOf kind section table (Table found) → IsSo (covered_or (coverage_of found) (checked found.mistake))
+part_found {V} {X} {Y} {D} kind section table found checked IsSo right mistaken h = by_mistake found.mistake refl
   where
     Mistakes : Option D → Type 0
     Mistakes mistake = MatchOption mistake (IsRightWherever (answer_held kind.spans h.table) (section h.version))
         (λ mistake. IsFirstMistake (answer_held kind.spans h.table) (section h.version) (kind.stretch mistake))
 
-    by_mistake : (mistake : Option D) → found.mistake ≡ mistake → IsSo (covered_or (unless mistake found.missed) all (checked mistake))
-    by_mistake None e = right (record { answered = all - found.missed; all = all }) (record {
+    by_mistake : (mistake : Option D) → found.mistake ≡ mistake
+        → IsSo (covered_or (option_map (λ missed. coverage_but missed found.all) (unless mistake found.missed)) (checked mistake))
+    by_mistake None e = right (coverage_but found.missed found.all) (record {
       version = h.version;
       table = h.table;
       is_table = h.is_table;
       so = (
         subst Mistakes e h.so.mistake,
-        counts_of (answer_held kind.spans h.table) (section h.version) all found.missed (addresses h.version) (h.so.missed e),
+        counts_of (answer_held kind.spans h.table) (section h.version) found.all found.missed (h.so.all e) (h.so.missed e),
       );
     })
     by_mistake (Some mistake) e =
@@ -187,8 +187,7 @@ part_found {V} {X} {Y} {D} kind section table found all checked IsSo addresses r
 
 within_told : (scope : Scope) (line general : List ℕ) (options : Options) (section table : List ℕ) (index : Indexed) (told : Judged)
     → (i : IsIndexOfSection line general options section index) → IsJudgedWith index (selected options i.units) table told
-    → IsTrueWithin scope line general options section table
-    (within_scope scope told (addresses_answered (line_answer (selected options i.units))))
+    → IsTrueWithin scope line general options section table (within_scope scope told)
 within_told All line general options section table index told i h = check_told line general options section table index told i h
 within_told Answered line general options section table index (judged.Numbered (Fault fault.Header)) i h = absurd (h.1 refl)
 within_told Answered line general options section table index (judged.Numbered (Fault (fault.Fields k))) i h =
@@ -198,19 +197,15 @@ within_told Answered line general options section table index (judged.Numbered (
 within_told Answered line general options section table index (judged.Numbered (Fault (fault.Order k))) i h =
     (record { units = i.units; good = i.good; so = h.0 }, λ e. cc e)
 within_told Answered line general options section table index (judged.Numbered (Table found)) i h =
-    let answers = line_answer (selected options i.units) in
-    part_found tables_by_number (told_rows options i.units) table found (addresses_answered answers)
-    (λ mistake. Numbered (verdict_of (compared_of mistake))) (IsTrueWithin Answered line general options section table)
-    (λ version. told_addresses (in_version version) answers)
+    part_found tables_by_number (told_rows options i.units) table found (λ mistake. Numbered (verdict_of (compared_of mistake)))
+    (IsTrueWithin Answered line general options section table)
     (λ coverage right. inl (record { units = i.units; good = i.good; so = right }))
     (λ mistake first. record { units = i.units; good = i.good; so = first }) h.0
 within_told Answered line general options section table index (judged.ByPath (Fault told)) i h =
     (h.0, record { units = i.units; good = i.good; so = h.1 })
 within_told Answered line general options section table index (judged.ByPath (Table found)) i h =
-    let answers = line_answer (selected options i.units) in
-    part_found tables_by_path (told_paths line general options i.units) table found (addresses_answered answers)
-    (λ mistake. ByPath (compared_of mistake)) (IsTrueWithin Answered line general options section table)
-    (λ version. told_addresses (path_answer version (path_at line general i.units)) answers)
+    part_found tables_by_path (told_paths line general options i.units) table found (λ mistake. ByPath (compared_of mistake))
+    (IsTrueWithin Answered line general options section table)
     (λ coverage right. inr (h.0, record { units = i.units; good = i.good; so = right }))
     (λ mistake first. (h.0, record { units = i.units; good = i.good; so = first }))
     (own_path line general options section table index (Table found) i h.1)
@@ -223,11 +218,11 @@ Judges table index found = OfUnits index (λ selection. IfSome table (λ text. I
 
 pub scope_told : (scope : Scope) (line general : List ℕ) (options : Options) (section table : Option (List ℕ)) (index : Indexed)
     (told : Judged) (checked : CheckedWithin) → IfSome section (λ bytes. IsIndexOfSection line general options bytes index)
-    → Judges table index told → OfUnits index (λ selection. checked ≡ within_scope scope told (addresses_answered (line_answer selection)))
+    → Judges table index told → checked ≡ within_scope scope told
     → IfSome section (λ bytes. IfSome table (λ text. IsTrueWithin scope line general options bytes text checked))
 scope_told scope line general options section table index told checked i h is_within =
     IfSome_then section i (λ bytes is. IfSome_then table (h (selected options is.units) is.index_is)
-    (λ text j. rw (is_within (selected options is.units) is.index_is)
+    (λ text j. rw is_within
     (within_told scope line general options bytes text index told is j)))
 
 -- ---- what an answer says of the section
@@ -244,25 +239,24 @@ of_good line general options section index (judged.Numbered outcome) i = (
 of_good line general options section index (judged.ByPath outcome) i = ((i.units, i.good), (i.units, i.good))
 
 -- what is so of the answer, and of all that says how much is answered
-covered_so : (IsSo : CheckedWithin → Type 0) (missed : Option ℕ) (all : ℕ) (checked : Checked) → IsSo (Told checked)
-    → ((coverage : Coverage) → IsSo (Covered coverage)) → IsSo (covered_or missed all checked)
-covered_so IsSo None all checked told covered = told
-covered_so IsSo (Some missed) all checked told covered = covered (coverage_but missed all)
+covered_so : (IsSo : CheckedWithin → Type 0) (coverage : Option Coverage) (checked : Checked) → IsSo (Told checked)
+    → ((coverage : Coverage) → IsSo (Covered coverage)) → IsSo (covered_or coverage checked)
+covered_so IsSo None checked told covered = told
+covered_so IsSo (Some coverage) checked told covered = covered coverage
 
-within_section : (line general : List ℕ) (options : Options) (section : List ℕ) (index : Indexed) (scope : Scope) (told : Judged) (all : ℕ)
+within_section : (line general : List ℕ) (options : Options) (section : List ℕ) (index : Indexed) (scope : Scope) (told : Judged)
     → IsIndexOfSection line general options section index
-    → IsTrueOfSectionWithin line general options section (within_scope scope told all)
-within_section line general options section index All told all i = (of_good line general options section index told i).0
-within_section line general options section index Answered told all i =
-    covered_so (IsTrueOfSectionWithin line general options section) (missed_in told) all (part_checked told)
+    → IsTrueOfSectionWithin line general options section (within_scope scope told)
+within_section line general options section index All told i = (of_good line general options section index told i).0
+within_section line general options section index Answered told i =
+    covered_so (IsTrueOfSectionWithin line general options section) (coverage_in told) (part_checked told)
     (of_good line general options section index told i).1 (λ coverage. (i.units, i.good))
 
 pub section_within : (line general : List ℕ) (options : Options) (section : Option (List ℕ)) (index : Indexed)
-    (scope : Scope) (told : Judged)
-    (all : ℕ) → IfSome section (λ bytes. IsIndexOfSection line general options bytes index)
-    → IfSome section (λ bytes. IsTrueOfSectionWithin line general options bytes (within_scope scope told all))
-section_within line general options section index scope told all i =
-    IfSome_then section i (λ bytes is. within_section line general options bytes index scope told all is)
+    (scope : Scope) (told : Judged) → IfSome section (λ bytes. IsIndexOfSection line general options bytes index)
+    → IfSome section (λ bytes. IsTrueOfSectionWithin line general options bytes (within_scope scope told))
+section_within line general options section index scope told i =
+    IfSome_then section i (λ bytes is. within_section line general options bytes index scope told is)
 
 -- no such answer has a reason of the section
 not_of_section : (told : Judged) (reason : SectionNo)
@@ -273,15 +267,15 @@ not_of_section (judged.Numbered outcome) reason = (
 )
 not_of_section (judged.ByPath outcome) reason = (λ e. cc e, λ e. cc e)
 
-pub not_within : (scope : Scope) (told : Judged) (all : ℕ) (reason : SectionNo)
-    → within_scope scope told all ≡ Told (Numbered (No (no.Section reason))) → ⊥
-not_within All told all reason = λ e. (not_of_section told reason).0 cc
-not_within Answered told all reason =
-    covered_so (λ checked. checked ≡ Told (Numbered (No (no.Section reason))) → ⊥) (missed_in told) all (part_checked told)
+pub not_within : (scope : Scope) (told : Judged) (reason : SectionNo)
+    → within_scope scope told ≡ Told (Numbered (No (no.Section reason))) → ⊥
+not_within All told reason = λ e. (not_of_section told reason).0 cc
+not_within Answered told reason =
+    covered_so (λ checked. checked ≡ Told (Numbered (No (no.Section reason))) → ⊥) (coverage_in told) (part_checked told)
     (λ e. (not_of_section told reason).1 cc) (λ coverage e. cc e)
 
 -- only in the scope of answered positions it is said how much is answered
-pub of_scope : (scope : Scope) (told : Judged) (all : ℕ) → IsOfScope (within_scope scope told all) scope
-of_scope All told all = tt
-of_scope Answered told all =
-    covered_so (λ checked. IsOfScope checked Answered) (missed_in told) all (part_checked told) tt (λ coverage. tt)
+pub of_scope : (scope : Scope) (told : Judged) → IsOfScope (within_scope scope told) scope
+of_scope All told = tt
+of_scope Answered told =
+    covered_so (λ checked. IsOfScope checked Answered) (coverage_in told) (part_checked told) tt (λ coverage. tt)

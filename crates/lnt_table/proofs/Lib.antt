@@ -8,3 +8,5 @@ pub mod OneVerdictLemmas
 pub mod OneWrittenLemmas
 mod AnyLawLemmas
 pub mod OneCheckLemmas
+pub mod OneWithinLemmas
+pub mod CoveredLemmas

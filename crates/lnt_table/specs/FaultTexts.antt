@@ -3,7 +3,7 @@ use Rattle.std.specs.Prelude.{ℕ, List, [], ◌++◌, Option, None, Some, codes
 use Rattle.lnt_records.specs.PathSpans.{PathAnswer}
 use Rattle.lnt_spans.specs.AnyStretches.{Stretch}
 use Rattle.lnt_spans.specs.declared.position.Position.{Position}
-use Rattle.lnt_text.specs.Texts.{quoted_text, position_text, difference_text}
+use Rattle.lnt_text.specs.Texts.{quoted_text, position_text, difference_text, end_text}
 use Rattle.lnt_table.specs.declared.verdict.TableNo.{TableNo}
 use Rattle.lnt_table.specs.declared.verdict.TableNo.TheVariants as no
 use Rattle.lnt_table.specs.declared.verdict.Verdict.TheVariants.{Yes, No}
@@ -31,11 +31,11 @@ abbrev pub path_answer_text : Option PathAnswer → List ℕ
 path_answer_text None = codes "none"
 path_answer_text (Some answer) = quoted_text answer.path ++ (codes "," ++ (decimal answer.line ++ column_text answer.column))
 
--- the first position of a stretch, with both answers
-abbrev pub path_stretch_text : Stretch PathAnswer → List ℕ
-path_stretch_text stretch =
-    codes "no 40 differs at " ++ (position_text stretch.position ++ (codes " table " ++
-    (path_answer_text stretch.by_table ++ (codes " section " ++ path_answer_text stretch.by_section))))
+-- the first position of a stretch, with both answers, and the first position after it, if that is told
+abbrev pub path_stretch_text : Stretch PathAnswer → Option Position → List ℕ
+path_stretch_text stretch end =
+    codes "no 40 differs at " ++ (position_text stretch.position ++ (end_text end ++ (codes " table " ++
+    (path_answer_text stretch.by_table ++ (codes " section " ++ path_answer_text stretch.by_section)))))
 
 -- the line with number 43: a span begins or ends at this position, whose operation index isn't 0
 abbrev pub operation_text : Position → List ℕ
@@ -62,7 +62,7 @@ verdict_text (No reason) = table_no_text reason
 abbrev pub compared_text : Compared DifferenceByPath → List ℕ
 compared_text Same = codes "yes"
 compared_text (Fault told) = table_no_text (no_of_fault told)
-compared_text (Differs difference) = path_stretch_text (stretch_of difference)
+compared_text (Differs difference) = path_stretch_text (stretch_of difference) None
 
 -- a check's answer, of a table of any version
 abbrev pub checked_text : Checked → List ℕ

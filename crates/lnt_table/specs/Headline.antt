@@ -22,7 +22,7 @@ use Rattle.lnt_table.specs.declared.verdict.TableNo.{TableNo}
 use Rattle.lnt_table.specs.declared.verdict.TableNo.TheVariants as no
 use Rattle.lnt_table.specs.declared.verdict.Verdict.{Verdict}
 use Rattle.lnt_table.specs.declared.verdict.Verdict.TheVariants.{Yes, No}
-use Rattle.lnt_header.specs.declared.header.HeaderParts.{HeaderParts}
+use Rattle.lnt_header.specs.Parts.{HeaderParts}
 use Rattle.lnt_files.specs.Paths.{path_bytes, path_or_empty}
 use Rattle.lnt_lines.specs.Indexed.{Indexed, file_path_in}
 use Rattle.lnt_records.specs.declared.by_path.version.PathVersion.{PathVersion}

@@ -1,6 +1,7 @@
 -- What the bodies of this crate say of a comparison of a table of any version with a good section. No public contract speaks of it.
-use Rattle.std.specs.Prelude.{◌≢◌, ℕ, List, None, Option, Some}
+use Rattle.std.specs.Prelude.{◌≢◌, ℕ, List, None, Option, Some, option_map}
 use Rattle.lnt_spans.specs.declared.difference.Difference.{Difference}
+use Rattle.lnt_spans.specs.declared.found.Found.{Found}
 use Rattle.lnt_spans.specs.Merged.{missed_of}
 use Rattle.lnt_sequences.specs.Sequences.{line_answer, Selection}
 use Rattle.lnt_records.specs.declared.fault.TableFault.TheVariants as fault
@@ -16,6 +17,7 @@ use Rattle.lnt_table.specs.declared.kinds.OfKind.{OfKind}
 use Rattle.lnt_table.specs.declared.kinds.OfKind.TheVariants as judged
 use Rattle.lnt_table.specs.declared.within.CheckedWithin.{CheckedWithin}
 use Rattle.lnt_table.specs.declared.within.CheckedWithin.TheVariants.{Checked as Told, Covered}
+use Rattle.lnt_table.specs.declared.within.Coverage.{Coverage}
 use Rattle.lnt_table.specs.declared.within.Scope.{Scope}
 use Rattle.lnt_table.specs.declared.within.Scope.TheVariants.{All, Answered}
 use Rattle.lnt_table.specs.Headline.{told_path}
@@ -45,23 +47,23 @@ abbrev pub part_checked : Judged → Checked
 part_checked (judged.Numbered outcome) = Numbered (verdict_of (part_of outcome))
 part_checked (judged.ByPath outcome) = ByPath (part_of outcome)
 
--- the number of addresses at which the section answers and the table doesn't, if the table is right wherever it answers
-abbrev pub missed_in_outcome : {D : Type 0} → Outcome D → Option ℕ
-missed_in_outcome (Fault told) = None
-missed_in_outcome (Table found) = missed_of found
+-- how much of the section a table answers that was found to be right wherever it answers
+abbrev pub coverage_of : {D : Type 0} → Found D → Option Coverage
+coverage_of found = option_map (λ missed. coverage_but missed found.all) (missed_of found)
 
-abbrev pub missed_in : Judged → Option ℕ
-missed_in (judged.Numbered outcome) = missed_in_outcome outcome
-missed_in (judged.ByPath outcome) = missed_in_outcome outcome
+abbrev pub coverage_in_outcome : {D : Type 0} → Outcome D → Option Coverage
+coverage_in_outcome (Fault told) = None
+coverage_in_outcome (Table found) = coverage_of found
 
--- of the section's addresses, of which there are this many, the table answers at all but the missed ones
-abbrev pub covered_or : Option ℕ → ℕ → Checked → CheckedWithin
-covered_or None all checked = Told checked
-covered_or (Some missed) all checked = Covered (coverage_but missed all)
+abbrev pub coverage_in : Judged → Option Coverage
+coverage_in (judged.Numbered outcome) = coverage_in_outcome outcome
+coverage_in (judged.ByPath outcome) = coverage_in_outcome outcome
 
-abbrev pub part_check : Judged → ℕ → CheckedWithin
-part_check judged all = covered_or (missed_in judged) all (part_checked judged)
+-- how much is answered, if that is told
+abbrev pub covered_or : Option Coverage → Checked → CheckedWithin
+covered_or None checked = Told checked
+covered_or (Some coverage) checked = Covered coverage
 
-abbrev pub within_scope : Scope → Judged → ℕ → CheckedWithin
-within_scope All judged all = Told (whole_checked judged)
-within_scope Answered judged all = part_check judged all
+abbrev pub within_scope : Scope → Judged → CheckedWithin
+within_scope All judged = Told (whole_checked judged)
+within_scope Answered judged = covered_or (coverage_in judged) (part_checked judged)

@@ -1,5 +1,5 @@
 -- The laws of verdicts and of answers of `check_any`.
-use Rattle.std.specs.Prelude.{◌≡◌, ℕ, List, Option}
+use Rattle.std.specs.Prelude.{◌≡◌, ℕ, List, [], Option}
 use Rattle.lnt_header.specs.declared.unit_parts.UnitParts.{UnitParts}
 use Rattle.lnt_spans.specs.declared.answer.Version.{Version}
 use Rattle.lnt_spans.specs.declared.position.Position.{Position}
@@ -10,13 +10,19 @@ use Rattle.lnt_lines.specs.Judging.{AreLinesOf}
 use Rattle.lnt_lines.specs.Good.{IsGood, selected}
 use Rattle.lnt_compare.specs.declared.outcome.Compared.TheVariants.{Same}
 use Rattle.lnt_compare.specs.Comparisons.{stretch_told}
+use Rattle.lnt_records.specs.Table.{IsTableOfIn, by_number}
+use Rattle.lnt_records.specs.PathTables.{by_path}
 use Rattle.lnt_records.specs.declared.by_path.version.PathVersion.{PathVersion}
 use Rattle.lnt_records.specs.PathSpans.{PathAnswer}
 use Rattle.lnt_compare.specs.PathStretches.{stretch_of}
 use Rattle.lnt_compare.specs.Canonical.{IsCanonicalPathTable}
 use Rattle.lnt_table.specs.Verdicts.{Checked, Verdict}
 use Rattle.lnt_table.specs.declared.kinds.OfKind.TheVariants.{Numbered, ByPath}
-use Rattle.lnt_table.specs.AnyVersion.{IsTrueCheck}
+use Rattle.lnt_table.specs.AnyVersion.{IsTrueCheck, IsTrueWithin}
+use Rattle.lnt_table.specs.declared.within.CheckedWithin.{CheckedWithin}
+use Rattle.lnt_table.specs.declared.within.CheckedWithin.TheVariants.{Checked as Told, Covered}
+use Rattle.lnt_table.specs.declared.within.Scope.{Scope}
+use Rattle.lnt_table.specs.declared.within.Scope.TheVariants.{Answered}
 use Rattle.lnt_table.specs.Headline.{answer_by_path, AnswersRight, IsTrueVerdict}
 use Rattle.lnt_table.specs.declared.verdict.Verdict.TheVariants.{Yes}
 use Rattle.lnt_table.specs.Written.{IsTableOfLines, IsTableOfUnits}
@@ -82,3 +88,39 @@ pub record OwnTableByPath : Type 0 where
       (version : PathVersion) (verdict : Verdict) → IsGood line general options section units
       → IsCanonicalPathTable version (answer_by_path version line general (selected options units)) table
       → IsTrueCheck line general options section table (Numbered verdict) → ⊥
+
+-- ---- checks at the positions of a scope
+
+-- The same of two answers of `check_within`; or they say that the table answers equally much.
+abbrev pub SayTheSameWithin : CheckedWithin → CheckedWithin → Type 0
+SayTheSameWithin (Told one) (Told other) = SayTheSame one other
+SayTheSameWithin (Covered one) (Covered other) = one ≡ other
+SayTheSameWithin one other = ⊥
+
+-- For one section, table, choice of options and scope all true answers say the same.
+pub record OneWithin : Type 0 where
+  pub one : (scope : Scope) (line general : List ℕ) (options : Options) (section table : List ℕ) (one other : CheckedWithin)
+      → IsTrueWithin scope line general options section table one → IsTrueWithin scope line general options section table other
+      → SayTheSameWithin one other
+
+-- It is true that the table is right wherever it answers, and that it answers so many of the section's addresses, of some number of
+-- them.
+abbrev pub IsCovered : List ℕ → List ℕ → Options → List ℕ → List ℕ → (ℕ → ℕ) → Type 0
+IsCovered line general options section table answered = (all : ℕ)
+    × IsTrueWithin Answered line general options section table (Covered (record { answered = answered all; all = all }))
+
+-- A table that answers as the section does at every position is right wherever it answers, and answers all of its addresses.
+pub record YesIsCovered : Type 0 where
+  pub numbered : (line general : List ℕ) (options : Options) (section table : List ℕ)
+      → IsTrueCheck line general options section table (Numbered Yes) → IsCovered line general options section table (λ all. all)
+  pub by_path : (line general : List ℕ) (options : Options) (section table : List ℕ)
+      → IsTrueCheck line general options section table (ByPath Same) → IsCovered line general options section table (λ all. all)
+
+-- A table without records is right wherever it answers, and answers none of a good section's addresses.
+pub record EmptyIsCovered : Type 0 where
+  pub numbered : (line general : List ℕ) (options : Options) (section table : List ℕ) (units : List (ℕ × UnitParts)) (version : Version)
+      → IsGood line general options section units → IsTableOfIn by_number version table []
+      → IsCovered line general options section table (λ all. 0)
+  pub by_path : (line general : List ℕ) (options : Options) (section table : List ℕ) (units : List (ℕ × UnitParts))
+      (version : PathVersion) → IsGood line general options section units → IsTableOfIn by_path version table []
+      → IsCovered line general options section table (λ all. 0)

@@ -33,7 +33,9 @@ impl fmt::Display for OfKind<Verdict, Compared<DifferenceByPath>> {
             OfKind::Numbered(verdict) => verdict.fmt(f),
             OfKind::ByPath(Compared::Same) => f.write_str("yes"),
             OfKind::ByPath(Compared::Fault(fault)) => TableNo::from(*fault).fmt(f),
-            OfKind::ByPath(Compared::Differs(difference)) => PathDifferenceLine(difference).fmt(f),
+            OfKind::ByPath(Compared::Differs(difference)) => {
+                PathDifferenceLine(difference, None).fmt(f)
+            }
         }
     }
 }

@@ -1,13 +1,14 @@
 //! What the comparison of a table of any version with a good section comes to.
 ghost use Rattle.std.specs.Prelude.{◌≡◌, ◌-◌, ◌^◌, ◌<◌, Option, IfOk, IfSome};
 ghost use Rattle.lnt_lines.specs.Indexed.{OfUnits};
-ghost use Rattle.lnt_table.specs.Judged.{IsJudgedWith, missed_in, part_checked, whole_checked};
+ghost use Rattle.lnt_table.specs.Judged.{IsJudgedWith, coverage_in, coverage_of, part_checked, whole_checked};
 ghost use Rattle.lnt_io.specs.Stopping.{CountsFailure, IsTooLongOn};
 
 use crate::by_path::Checked;
 use crate::kinds::OfKind;
 use crate::paths::IndexPaths;
 use crate::verdict::verdict_of;
+use crate::within::Coverage;
 use lnt_compare::{
     DifferenceByPath, Outcome, TableRead, Window, compare_by_path, compare_lines,
     compare_lines_by_path, compare_records, pass_header,
@@ -15,7 +16,7 @@ use lnt_compare::{
 use lnt_io::{Source, Stop};
 use lnt_lines::Index;
 use lnt_records::{PathVersion, TableFault};
-use lnt_spans::{Difference, Version};
+use lnt_spans::{Difference, Found, Version};
 use std::alloc::{AllocError, Global};
 
 // What the comparison of a table of any version with a good section comes to.
@@ -42,16 +43,24 @@ impl OfKind<Outcome<Difference>, Outcome<DifferenceByPath>> {
         }
     }
 
-    // The number of addresses at which the section answers and the table doesn't, if it is right wherever it answers.
-    pub(crate) fn missed(&self) -> Option<u128>
-        ensures { result ≡ missed_in self.now }
+    // How much of the section the table answers, if it is right wherever it answers.
+    pub(crate) fn coverage(&self) -> Option<Coverage>
+        ensures { result ≡ coverage_in self.now }
     {
         match self {
-            OfKind::Numbered(TableRead::Table(found)) => found.missed(),
-            OfKind::ByPath(TableRead::Table(found)) => found.missed(),
+            OfKind::Numbered(TableRead::Table(found)) => coverage_of(found),
+            OfKind::ByPath(TableRead::Table(found)) => coverage_of(found),
             OfKind::Numbered(TableRead::Fault(_)) | OfKind::ByPath(TableRead::Fault(_)) => None,
         }
     }
+}
+
+// The same, by what the comparison found.
+fn coverage_of<D: Drop>(found: &Found<D>) -> Option<Coverage>
+    ensures { result ≡ coverage_of found.now }
+{
+    let missed = found.missed()?;
+    Some(Coverage::but(missed, found.all()))
 }
 
 // Compares the table with the spans of the index, by number or by path according to its header.

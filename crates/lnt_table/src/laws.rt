@@ -1,6 +1,7 @@
 //! Laws of answers and verdicts, each the contract of a function without parameters that does nothing.
 ghost use Rattle.lnt_spans.specs.Laws.{Borders};
 ghost use Rattle.lnt_table.specs.Laws.{OneCheck, OneNumbered, OneVerdict, OneWritten, OnlyYes, OwnTable, OwnTableByPath, OwnTableOfUnits};
+ghost use Rattle.lnt_table.specs.Laws.{EmptyIsCovered, OneWithin, YesIsCovered};
 
 /// If two lists of spans, each in order and without empty spans, give the same answer at each position where a span of
 /// either begins or ends, they give the same answer at every position. So the spans of a table and of a section need to be
@@ -81,3 +82,28 @@ pub fn one_check()
     one_numbered();
     lnt_compare::laws::one_comparison();
 }
+
+/// For one section, table of any version, choice of options and scope all true answers of `check_within` say the same. So if
+/// it doesn't stop, its answer is determined: as for `check_any`, and also the first mistake of a table that answers a part of
+/// the positions, and how much such a table answers.
+pub fn one_within()
+    ensures { OneWithin }
+{
+    one_check();
+    lnt_lines::laws::good_has_no_flaw();
+    lnt_lines::laws::one_no();
+}
+
+/// If `check_any` can answer of a table that it answers as the section does, `check_within` can answer in the scope
+/// `Answered` that it is right wherever it answers, and that it answers all addresses of the section.
+#[tactic(auto, using(crate::proofs::CoveredLemmas::yes_is_covered))]
+pub fn yes_is_covered()
+    ensures { YesIsCovered }
+{}
+
+/// Of a good section and a table without records `check_within` can answer in the scope `Answered` that the table is right
+/// wherever it answers, and that it answers none of the section's addresses.
+#[tactic(auto, using(crate::proofs::CoveredLemmas::empty_is_covered))]
+pub fn empty_is_covered()
+    ensures { EmptyIsCovered }
+{}

@@ -32,8 +32,8 @@ pub use verdict::{TableNo, Verdict};
 pub use within::{CheckedWithin, Coverage, Scope, check_within};
 
 // Every difference.
-pub use lnt_compare::{DifferencesByPath, Differing, HeldSpan, HeldTable, Remaining};
-pub use lnt_spans::{Differences, SpanList};
+pub use lnt_compare::{DifferencesByPath, Differing, HeldSpan, HeldTable, Remaining, TableRead};
+pub use lnt_spans::{Difference, Differences, SpanList};
 pub use stretches::{AnyDiffering, differences, differences_any, differences_by_path};
 
 // Writing.

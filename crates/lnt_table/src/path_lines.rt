@@ -5,21 +5,26 @@ ghost use Rattle.lnt_table.specs.FaultTexts.{column_text, operation_text, path_a
 
 use lnt_compare::{AnswerByPath, DifferenceByPath};
 use lnt_spans::Position;
-use lnt_text::{PositionText, Quoted};
+use lnt_text::{EndText, PositionText, Quoted};
 use std::fmt;
 
-/// The line of a position at which a table by path and a section answer differently, with both answers, without its line feed.
+/// The line of a position at which a table by path and a section answer differently, with both answers, without its line feed. If a
+/// position is given, it tells that too: the first one after the stretch.
 #[derive(Clone, Copy)]
-pub struct PathDifferenceLine<'a>(pub &'a DifferenceByPath);
+pub struct PathDifferenceLine<'a>(pub &'a DifferenceByPath, pub Option<Position>);
 
 impl fmt::Display for PathDifferenceLine<'_> {
-    ghost output = { λ line. Some (path_stretch_text (stretch_of line.0.now)) };
+    ghost output = { λ line. Some (path_stretch_text (stretch_of line.0.now) line.1) };
 
     fn fmt<W: fmt::Write>(&self, f: &mut fmt::Formatter<W>) -> fmt::Result {
         let at = PositionText(self.0.position);
+        let end = EndText(self.1);
         let table = PathAnswerText(&self.0.by_table);
         let section = PathAnswerText(&self.0.by_section);
-        write!(f, "no 40 differs at {at} table {table} section {section}")
+        write!(
+            f,
+            "no 40 differs at {at}{end} table {table} section {section}"
+        )
     }
 }
 

@@ -85,7 +85,7 @@ impl fmt::Display for TableNo {
                     by_table,
                     by_section,
                 };
-                DifferenceLine(difference).fmt(f)
+                DifferenceLine(difference, None).fmt(f)
             }
         }
     }

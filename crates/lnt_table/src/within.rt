@@ -1,10 +1,7 @@
 //! Checks a section against an address table at all positions, or at those at which the table answers.
-ghost use Rattle.std.specs.Prelude.{◌≡◌, ◌-◌, ◌^◌, ◌<◌, ℕ, IfOk, IfSome, Some};
+ghost use Rattle.std.specs.Prelude.{◌≡◌, ◌-◌, ◌^◌, ◌<◌, IfOk, IfSome, Some};
 ghost use Rattle.lnt_lines.specs.declared.no.No.{No as SectionNo};
-ghost use Rattle.lnt_lines.specs.Indexed.{OfUnits};
 ghost use Rattle.lnt_io.specs.declared.stop.Stop.TheVariants.{Read, TooLong};
-ghost use Rattle.lnt_sequences.specs.Sequences.{line_answer};
-ghost use Rattle.lnt_spans.specs.Partial.{addresses_answered};
 ghost use Rattle.lnt_table.specs.FaultTexts.{within_text};
 ghost use Rattle.lnt_table.specs.Judged.{within_scope};
 ghost use Rattle.lnt_table.specs.AnyVersion.{IsOfScope, IsTrueOfSectionWithin, IsTrueWithin, coverage_but, scope_in};
@@ -15,8 +12,7 @@ use crate::judged::{Judged, judge_index};
 use crate::kinds::OfKind;
 use crate::verdict::{TableNo, Verdict};
 use lnt_io::{Source, Stop};
-use lnt_lines::{Index, JudgedIndex, Options, index_section};
-use lnt_spans::count_all;
+use lnt_lines::{JudgedIndex, Options, index_section};
 use lnt_wire::Strings;
 use std::alloc::Global;
 use std::fmt;
@@ -53,12 +49,10 @@ pub struct Coverage {
 }
 
 impl Coverage {
-    /// How much of the section of an index a table answers that misses this many of its addresses.
-    pub fn of(index: &Index<'_>, missed: u128) -> Coverage
-        ensures covered { OfUnits index.now (λ selection. result ≡ coverage_but missed (addresses_answered (line_answer selection))) }
-        ensures some { result ≡ coverage_but missed result.all }
+    /// How much of a section a table answers that misses so many of its addresses.
+    pub fn but(missed: u128, all: u128) -> Coverage
+        ensures { result ≡ coverage_but missed all }
     {
-        let all = count_all(index.spans());
         Coverage {
             answered: all.saturating_sub(missed),
             all,
@@ -130,18 +124,17 @@ pub fn check_within<R: Source, T: Source>(
         }
     };
     let judged = judge_index(alloc, table, &index)?;
-    Ok(within(judged, scope, &index))
+    Ok(within(judged, scope))
 }
 
 // The answer in this scope.
-fn within(judged: Judged, scope: Scope, index: &Index<'_>) -> CheckedWithin
-    ensures within { OfUnits index.now (λ selection. result ≡ within_scope scope judged (addresses_answered (line_answer selection))) }
-    ensures some { (all : ℕ) × (result ≡ within_scope scope judged all) }
+fn within(judged: Judged, scope: Scope) -> CheckedWithin
+    ensures { result ≡ within_scope scope judged }
 {
     match scope {
         Scope::All => CheckedWithin::Checked(judged.whole()),
-        Scope::Answered => match judged.missed() {
-            Some(missed) => CheckedWithin::Covered(Coverage::of(index, missed)),
+        Scope::Answered => match judged.coverage() {
+            Some(coverage) => CheckedWithin::Covered(coverage),
             None => CheckedWithin::Checked(judged.part()),
         },
     }

@@ -4,6 +4,6 @@ mod streams;
 mod units;
 mod worked;
 
-pub(crate) use streams::{Narrow, Pieces, Reader, failing, whole};
+pub(crate) use streams::{FailsOnce, Narrow, Pieces, Reader, failing, whole};
 pub(crate) use units::{BELOW_ZERO, ENDLESS, LISTED, OF_NOTHING, OPEN, PLAIN, SHORT, TABLE, WIDE};
 pub(crate) use worked::{LINE_STRINGS, WORKED, Worked};

@@ -52,6 +52,12 @@ pub record IsNumber (radix : Radix) (text : List ℕ) (n : ℕ) : Type 0 where
 abbrev pub IsDecimal : List ℕ → ℕ → Type 0
 IsDecimal text n = IsNumber Ten text n
 
+-- 1 to 3 decimal digits, of a number up to 100
+pub record IsPercentage (text : List ℕ) (n : ℕ) : Type 0 where
+  pub number : IsDecimal text n
+  pub few : length text ≤ 3
+  pub most : n ≤ 100
+
 -- 0x and a hexadecimal number
 pub record IsAddress (text : List ℕ) (n : ℕ) : Type 0 where
   pub digits : List ℕ

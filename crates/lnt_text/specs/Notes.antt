@@ -24,6 +24,7 @@ argument_text argument.Dead = codes "ADDRESS of --dead is 0x and 1 to 16 hexadec
 argument_text argument.Format = codes "--format is 32 or 64"
 argument_text argument.Order = codes "--order is little or big"
 argument_text argument.AddressSize = codes "--address-size is 2, 4 or 8"
+argument_text argument.AtLeast = codes "P of --at-least is 1 to 3 decimal digits, and at most 100"
 
 -- what a file looks like, and what to do
 abbrev pub look_text : Look → List ℕ

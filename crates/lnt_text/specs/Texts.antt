@@ -43,11 +43,19 @@ answer_text (Some answer) =
     (decimal answer.line ++ (codes "," ++
     (decimal answer.column ++ (codes "," ++ (decimal (if answer.is_stmt then 1 else 0) ++ more_text answer.more))))))))
 
--- where a table and a section answer differently, with both answers
+-- the end of a stretch, if it is told
+abbrev pub end_text : Option Position → List ℕ
+end_text None = []
+end_text (Some end) = codes " up to " ++ position_text end
+
+-- where a table and a section answer differently, with both answers, and the first position after the stretch, if it is told
+abbrev pub stretch_text : Difference → Option Position → List ℕ
+stretch_text difference end =
+    codes "no 40 differs at " ++ (position_text difference.position ++ (end_text end
+    ++ (codes " table " ++ (answer_text difference.by_table ++ (codes " section " ++ answer_text difference.by_section)))))
+
 abbrev pub difference_text : Difference → List ℕ
-difference_text difference =
-    codes "no 40 differs at " ++ (position_text difference.position
-    ++ (codes " table " ++ (answer_text difference.by_table ++ (codes " section " ++ answer_text difference.by_section))))
+difference_text difference = stretch_text difference None
 
 -- which bytes are rejected, and why
 abbrev pub malformed_text : Fault → List ℕ

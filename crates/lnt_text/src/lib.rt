@@ -19,11 +19,11 @@ mod read;
 mod shown;
 
 pub use delimited::{address_until, decimal_until, past};
-pub use difference::DifferenceLine;
+pub use difference::{DifferenceLine, EndText};
 pub use fault::MalformedLine;
 pub use note::{Argument, Column, Look, Note, RecordRule, StringSection};
 pub use position::PositionText;
 pub use put::{address_before, decimal_before, put_address, put_decimal};
 pub use quoted::Quoted;
-pub use read::{address, decimal};
+pub use read::{address, decimal, percentage};
 pub use shown::Shown;

@@ -49,6 +49,8 @@ pub enum Argument {
     Order,
     /// The number of bytes of an address, of `--address-size`.
     AddressSize,
+    /// The percentage of `--at-least`.
+    AtLeast,
 }
 
 /// What a file that isn't a section looks like.
@@ -193,6 +195,7 @@ fn rule_of_argument(argument: Argument) -> &'static str
         Argument::Format => "--format is 32 or 64",
         Argument::Order => "--order is little or big",
         Argument::AddressSize => "--address-size is 2, 4 or 8",
+        Argument::AtLeast => "P of --at-least is 1 to 3 decimal digits, and at most 100",
     }
 }
 

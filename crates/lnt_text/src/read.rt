@@ -1,6 +1,6 @@
 //! Numbers read from text.
 ghost use Rattle.std.specs.Prelude.{ℕ, MatchOption};
-ghost use Rattle.lnt_text.specs.Digits.{IsAddress, IsDecimal, IsNumber};
+ghost use Rattle.lnt_text.specs.Digits.{IsAddress, IsDecimal, IsNumber, IsPercentage};
 
 use crate::radix::Radix;
 
@@ -9,6 +9,21 @@ pub fn decimal(text: &[u8]) -> Option<u64>
     ensures { MatchOption result ((n : ℕ) → IsDecimal text.now n → ⊥) (λ n. IsDecimal text.now n) }
 {
     number(text, Radix::Ten)
+}
+
+/// Parses a text of 1 to 3 decimal digits and nothing else, of a number up to 100. `None` for any other text.
+#[tactic(auto, using(crate::proofs::ReadLemmas::no_percentage_of_many, crate::proofs::ReadLemmas::no_percentage_above))]
+pub fn percentage(text: &[u8]) -> Option<u64>
+    ensures { MatchOption result ((n : ℕ) → IsPercentage text.now n → ⊥) (λ n. IsPercentage text.now n) }
+{
+    if text.len() > 3 {
+        return None;
+    }
+    let number = decimal(text)?;
+    if number > 100 {
+        return None;
+    }
+    Some(number)
 }
 
 /// Parses a text of `0x` and 1 to 16 hexadecimal digits of either case, and nothing else. `None` for any other text.

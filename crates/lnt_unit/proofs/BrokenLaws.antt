@@ -20,7 +20,7 @@ use Rattle.lnt_header_bytes.specs.HeaderBytes.{unit_body, HeaderBytes, HeaderByt
 use Rattle.lnt_header.specs.Joins.{Each}
 use Rattle.lnt_header_bytes.proofs.HeaderLaws.{same_header}
 use Rattle.lnt_header.proofs.ReaderLaws.{cut_later}
-use Rattle.lnt_header.specs.declared.header.HeaderParts.{HeaderParts}
+use Rattle.lnt_header.specs.Parts.{HeaderParts}
 use Rattle.lnt_ops.specs.OpBytes.{OpBytes}
 use Rattle.lnt_ops.specs.OpFaults.{IsOpFault}
 use Rattle.lnt_ops.specs.OpFaults.IsOpFault.{cut_field, large_number, wrong_length}

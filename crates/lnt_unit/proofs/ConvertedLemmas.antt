@@ -15,7 +15,7 @@ use Rattle.lnt_header.specs.Conversion.{in_format, unit_in_format}
 use Rattle.lnt_header.specs.Encoding.{RefusedPut}
 use Rattle.lnt_header_bytes.specs.HeaderBytes.{HeaderBytesIn}
 use Rattle.lnt_header.specs.Joins.{Each}
-use Rattle.lnt_header.specs.declared.header.HeaderParts.{HeaderParts}
+use Rattle.lnt_header.specs.Parts.{HeaderParts}
 use Rattle.lnt_header.specs.declared.op.Op.{Op}
 use Rattle.lnt_ops.specs.OpBytes.{OpBytes}
 use Rattle.lnt_ops.specs.OpPuts.{AddsOps}

@@ -15,7 +15,7 @@ use Rattle.lnt_header_bytes.specs.Broken.{InHeader, UpToLimit, IsAt, IsFirstFiel
 use Rattle.lnt_header_bytes.specs.Broken.IsFirstField.{frame, start, counted}
 use Rattle.lnt_header_bytes.specs.HeaderBytes.{unit_body, HeaderBytesIn}
 use Rattle.lnt_header_bytes.proofs.HeaderLaws.{regroup}
-use Rattle.lnt_header.specs.declared.header.HeaderParts.{HeaderParts}
+use Rattle.lnt_header.specs.Parts.{HeaderParts}
 use Rattle.lnt_header.specs.declared.unit_parts.UnitParts.{UnitParts}
 use Rattle.lnt_unit.specs.BrokenUnits.{BeginsWithHeader, BrokenUnit}
 use Rattle.lnt_unit.specs.UnitBytes.{UnitBytesIn}

@@ -2,7 +2,7 @@
 use Rattle.std.proofs.Common.{◌⊎◌, Vec, Global, ℕ, List, subst, inl, inr, Result, Ok, Err, IfErr}
 use Rattle.lnt_wire.specs.declared.put.EncodeFault.{EncodeFault}
 use Rattle.lnt_wire.specs.Bytes.{IsShortest}
-use Rattle.lnt_header.specs.declared.header.HeaderParts.{HeaderParts}
+use Rattle.lnt_header.specs.Parts.{HeaderParts}
 use Rattle.lnt_header.specs.Joins.{Each}
 use Rattle.lnt_header_bytes.specs.Large.{HasLargeOffset, IfTooLarge, IsTooLong}
 use Rattle.lnt_ops.specs.OpBytes.{OpBytes}

@@ -12,7 +12,7 @@ use Rattle.lnt_wire.specs.declared.fault.Reason.TheVariants.{HeaderLength, MaxOp
 use Rattle.lnt_wire.specs.declared.fault.Reason.TheVariants.{UnknownForm, EmptyFormat, LebTooLarge, ExtendedLength, Memory}
 use Rattle.lnt_wire.specs.declared.format.Order.{Order}
 use Rattle.lnt_wire.proofs.LengthLaws.{same_rest}
-use Rattle.lnt_header.specs.declared.header.HeaderParts.{HeaderParts}
+use Rattle.lnt_header.specs.Parts.{HeaderParts}
 use Rattle.lnt_header_bytes.specs.HeaderBytes.{HeaderBytesIn, unit_body}
 use Rattle.lnt_header_bytes.proofs.FirstFieldLaws.{first_field_one}
 use Rattle.lnt_ops.proofs.OpFaultLaws.{program_one}

@@ -8,7 +8,7 @@ use Rattle.lnt_wire.specs.declared.fault.Reason.TheVariants.{Memory}
 use Rattle.lnt_wire.specs.declared.format.Order.{Order}
 use Rattle.lnt_wire.specs.declared.frame.Frame.{Frame}
 use Rattle.lnt_header_bytes.specs.HeaderBytes.{HeaderBytesIn}
-use Rattle.lnt_header.specs.declared.header.HeaderParts.{HeaderParts}
+use Rattle.lnt_header.specs.Parts.{HeaderParts}
 use Rattle.lnt_unit.specs.BrokenUnits.{BrokenUnit}
 use Rattle.lnt_unit.specs.UnitBytes.{UnitBytesIn}
 use Rattle.lnt_header.specs.declared.unit_parts.UnitParts.{UnitParts}

@@ -23,8 +23,8 @@ mod view;
 
 // Units as values.
 pub use lnt_header::{
-    Entry, EntryTable as Which, Header, HeaderParts, Op, OpView, Operands, Pair, Unit, UnitFault,
-    UnitParts as Parts,
+    CodedOp, Entry, EntryTable as Which, Header, HeaderNumbers, HeaderParts, NumberParts, Op,
+    OpView, Operands, Pair, Unit, UnitFault, UnitParts as Parts,
 };
 
 // Whole headers, units and sections.
@@ -46,7 +46,7 @@ pub use view::UnitView;
 // Headers whose entries are read in place.
 pub use in_place::UnitInPlace;
 pub use lnt_header_bytes::{
-    EntriesInPlace, EntryTableView, HeaderInPlace, HeaderView, KeptHeader, Marks,
+    EntriesInPlace, EntryTableView, HeaderInPlace, HeaderView, KeptHeader, Mark, Marks,
 };
 
 // The types of `lnt_wire` that these calls name.

@@ -17,5 +17,6 @@ pub mod Spelled
 pub use Rattle.lnt_io.specs.CountedSources
 pub use Rattle.lnt_io.specs.FaultTexts as SourceTexts
 pub use Rattle.lnt_io.specs.Pulling
+pub use Rattle.lnt_io.specs.Stopping
 pub use Rattle.lnt_io.specs.declared.source.ReadFault as DeclaredReadFault
 pub use Rattle.lnt_io.specs.declared.stop.Stop as DeclaredStop

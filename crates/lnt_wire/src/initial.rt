@@ -1,5 +1,5 @@
 //! The initial length and the version of a unit (DWARF 5, sections 6.2.4 and 7.4).
-ghost use Rattle.std.specs.Prelude.{◌≡◌, ◌+◌, ◌^◌, ◌<◌, length, IfOk, IfErr, OnOk};
+ghost use Rattle.std.specs.Prelude.{◌≡◌, ◌+◌, ◌^◌, ◌<◌, length, IfOk, IfErr, OnErr, OnOk};
 ghost use Rattle.lnt_wire.specs.FrameBytes.{BeginsWithFive, InitialBytes};
 ghost use Rattle.lnt_wire.specs.FrameFaults.{IsInitialFault, IsVersionFault};
 ghost use Rattle.lnt_wire.specs.Reading.{Reads};
@@ -10,9 +10,25 @@ use crate::format::{Format, Order};
 
 /// The initial length at the cursor: the format, and the number of bytes of the unit after it (DWARF 5, section 7.4).
 ///
-/// Fails with `Truncated` if its 4 bytes, or the 8 after 0xffffffff, are missing, and with `ReservedLength`. Then the cursor is
-/// unspecified.
+/// Moves past it. Fails with `Truncated` if its 4 bytes, or the 8 after 0xffffffff, are missing, and with `ReservedLength`, and
+/// then leaves the cursor unchanged.
 pub fn initial_length(cursor: &mut Cursor<'_>) -> Result<(Format, u64), Reason>
+    ensures ok { IfOk result (λ initial. Reads (InitialBytes cursor.old.order) initial cursor.old cursor.new) }
+    ensures err { IfErr result (λ reason. IsInitialFault cursor.old.order reason cursor.old.rest) }
+    ensures unchanged { OnErr result (cursor.new ≡ cursor.old) }
+{
+    let mut ahead = cursor.fork();
+    match read_initial(&mut ahead) {
+        Ok(initial) => {
+            *cursor = ahead;
+            Ok(initial)
+        }
+        Err(reason) => Err(reason),
+    }
+}
+
+// The same. After a refusal nothing is said of the cursor.
+fn read_initial(cursor: &mut Cursor<'_>) -> Result<(Format, u64), Reason>
     ensures ok { IfOk result (λ initial. Reads (InitialBytes cursor.old.order) initial cursor.old cursor.new) }
     ensures err { IfErr result (λ reason. IsInitialFault cursor.old.order reason cursor.old.rest) }
 {

@@ -1,13 +1,13 @@
 -- Words that ask for nothing: no request fits them.
 use Rattle.std.proofs.Common.{◌≡◌, ◌<◌, ℕ, zero, suc, arith, List, [], ◌∷◌, Option, Some, None, Result, codes, get_or, ap, length, subst}
-use Rattle.std.proofs.Common.{sym, ◌≢◌, IfErr, Bor}
+use Rattle.std.proofs.Common.{sym, ◌≢◌, IfErr, Bor, Bool, IsTrue, IsSome}
 use Rattle.clap.specs.Words.{HasKind, IsAmong, Kinds, Row, Text, first_of, kind_of}
 use Rattle.clap.specs.declared.error.Error.{Error}
 use Rattle.clap.specs.declared.error.kind.ErrorKind.TheVariants.{OutOfMemory}
 use Rattle.lnt_text.specs.Digits.{IsAddress}
 use Rattle.lnt_words.specs.declared.request.AddressSize.{AddressSize}
 use Rattle.lnt_words.specs.declared.request.Request.{Request}
-use Rattle.lnt_words.specs.Words.{AreAddresses, IsAskedIn, IsMarker, IsSize, IsWord}
+use Rattle.lnt_words.specs.Words.{AreAddresses, AreCheckWords, IsAskedIn, IsFlagGiven, IsMarker, IsSize, IsWord}
 use Rattle.lnt_words.proofs.WordLemmas.{texts_of}
 use Rattle.std.proofs.lemmas.Grind.{common_steps}
 
@@ -52,3 +52,24 @@ other_name name e = ap (λ (n : Text). get_or n 1 0) (sym e)
 
 pub no_size : (rows : List Row) → ((size : AddressSize) → IsSize rows size → ⊥) → (request : Request) → IsAskedIn (codes "upgrade") rows request → ⊥
 no_size rows none request so = grind (arith, common_steps, other_name, codes)
+
+-- ---- flags and a percentage that don't fit together
+
+-- a flag has one value
+one_flag : (rows : List Row) (name : Text) (one other : Bool) → IsFlagGiven rows name one → IsFlagGiven rows name other → IsTrue one
+    → IsTrue other
+one_flag rows name one other h k set = k.1 (h.0 set)
+
+-- ends are told of all positions alone
+pub no_ends : (rows : List Row) (all ends : Bool) → IsFlagGiven rows (codes "all") all → IsFlagGiven rows (codes "ends") ends
+    → IsTrue ends → (IsTrue all → ⊥) → (all' ends' partial : Bool) (at_least : ℕ) → AreCheckWords rows all' ends' partial at_least → ⊥
+no_ends rows all ends is_all has_ends set unset all' ends' partial at_least so =
+    unset (one_flag rows (codes "all") all' all so.is_all is_all
+    (so.ends_of_all (one_flag rows (codes "ends") ends ends' has_ends so.has_ends set)))
+
+-- and a percentage is one of a part
+pub no_part : (rows : List Row) (partial : Bool) → IsFlagGiven rows (codes "partial") partial
+    → IsSome (first_of (codes "at-least") rows) → (IsTrue partial → ⊥) → (all ends partial' : Bool) (at_least : ℕ)
+    → AreCheckWords rows all ends partial' at_least → ⊥
+no_part rows partial is_partial given unset all ends partial' at_least so =
+    unset (one_flag rows (codes "partial") partial' partial so.is_partial is_partial (so.of_partial given))

@@ -1,5 +1,7 @@
 -- clap's matches of the words, in terms of their rows.
 use Rattle.std.proofs.Common.{◌≡◌, ◌⊎◌, ◌++◌, ◌∷◌, [], ℕ, List, Option, Some, map, option_map, refl, true, arith, Bor}
+use Rattle.std.proofs.Common.{◌==◌, false, get_or, length, subst, sym}
+use Rattle.std.proofs.lemmas.Bool.{false≢true}
 use Rattle.clap.proofs.OnLiterals.{clap_on_literals}
 use Rattle.clap.specs.Words.{HasKind, IsAmong, Kinds, Row, Text, is_simple, is_simple_and_free, kind_of}
 use Rattle.clap.specs.Words.{subcommand_name_of, subcommand_rows_of}
@@ -8,7 +10,7 @@ use Rattle.clap.specs.declared.error.kind.ErrorKind.TheVariants as kind
 use Rattle.clap.specs.declared.parser.matches.ArgMatches.{ArgMatches}
 use Rattle.clap.specs.declared.parser.matches.ArgMatches.TheViews.{out-ArgMatches}
 use Rattle.lnt_text.specs.Digits.{IsAddress}
-use Rattle.lnt_words.specs.Words.{AreAddresses, IsAskedOf, Asked, linetab}
+use Rattle.lnt_words.specs.Words.{AreAddresses, IsAskedOf, IsNoYes, Asked, linetab}
 use Rattle.lnt_words.specs.Described.{IsAskedOfMatches}
 use Rattle.std.proofs.lemmas.Grind.{common_steps}
 
@@ -34,6 +36,16 @@ found_pair matches name rows is_name is_rows = paired _ _ (out-ArgMatches matche
 
 pub by_rows : (matches : ArgMatches) (asked : Asked) → IsAskedOfMatches matches asked → IsAskedOf (subcommand_rows_of matches) asked
 by_rows matches asked so = grind (arith, common_steps, found_pair)
+
+-- ---- texts that don't begin with the letter y
+
+pub no_first : (bytes : List ℕ) → length bytes ≡ 0 → IsNoYes bytes
+no_first [] empty = tt
+no_first (byte ∷ bytes) empty = absurd (omega arith)
+
+pub other_first : (bytes : List ℕ) → (get_or bytes 0 0 == 121) ≡ false → IsNoYes bytes
+other_first [] other = tt
+other_first (byte ∷ bytes) other = λ is. false≢true (sym (subst (λ (b : ℕ). (b == 121) ≡ false) is other))
 
 -- ---- addresses
 

@@ -10,7 +10,8 @@ use Rattle.clap.specs.declared.parser.matches.ArgMatches.{ArgMatches}
 use Rattle.lnt_words.specs.Words.{IsAskedIn, IsFlagGiven, Asked, flag, option, required, several, word}
 use Rattle.lnt_words.specs.declared.description.ArgumentRule.{ArgumentRule}
 use Rattle.lnt_words.specs.declared.description.Kind.{Kind}
-use Rattle.lnt_words.specs.declared.description.Kind.TheVariants.{Word, WordsUnless, Flag, FlagWithout, FlagWithoutBoth, Valued, Required}
+use Rattle.lnt_words.specs.declared.description.Kind.TheVariants.{Word, WordsUnless, Flag, FlagWithout, FlagWithoutBoth, FlagWith, Valued}
+use Rattle.lnt_words.specs.declared.description.Kind.TheVariants.{ValuedWith, Required}
 use Rattle.lnt_words.specs.declared.description.Subcommand.{Subcommand}
 use Rattle.lnt_words.specs.declared.stop.WordsStop.{WordsStop}
 
@@ -24,14 +25,16 @@ pub record IsCommand (app : App) (command : Command) : Type 0 where
   pub app_is : app_of command ≡ app
   pub local : (fields_of command).has_globals ≡ false
 
--- Which arguments exclude one another isn't part of a rule.
+-- Which arguments exclude or require one another isn't part of a rule.
 abbrev pub rule_of_kind : Text → Kind → Rule
 rule_of_kind name Word = word name
 rule_of_kind name (WordsUnless other) = several (new_rule name)
 rule_of_kind name Flag = flag name
 rule_of_kind name (FlagWithout other) = flag name
 rule_of_kind name (FlagWithoutBoth one other) = flag name
+rule_of_kind name (FlagWith other) = flag name
 rule_of_kind name (Valued value) = option name
+rule_of_kind name (ValuedWith value other) = option name
 rule_of_kind name (Required value) = required (option name)
 
 abbrev pub rule_in : ArgumentRule → Rule

@@ -3,12 +3,12 @@
 -- clap's result is a function of the words and of the command (`linetab`): the subcommand's name, and a row for each of its arguments,
 -- with the values that it was given or has by default.
 use Rattle.std.specs.Prelude.{◌≡◌, ◌≢◌, ◌↔◌, ◌⊎◌, ◌∷◌, ◌++◌, Bool, IsTrue, true, false, ℕ, map, List, []}
-use Rattle.std.specs.Prelude.{Option, Some, None, codes, IsSomeAnd, MatchOption, option_copied}
+use Rattle.std.specs.Prelude.{Option, Some, None, codes, IsSome, IsSomeAnd, MatchOption, option_copied, string_bytes}
 use Rattle.std.specs.List.{AllZip}
 use Rattle.clap.specs.Words.{IsAmong, Row, Text, all_of, fault_of, first_of, subcommand_of, App, Rule, Shape, new_rule}
 use Rattle.clap.specs.declared.error.kind.ErrorKind.{ErrorKind}
 use Rattle.clap.specs.declared.error.kind.ErrorKind.TheVariants.{DisplayHelp, DisplayVersion}
-use Rattle.lnt_text.specs.Digits.{IsAddress, IsDecimal}
+use Rattle.lnt_text.specs.Digits.{IsAddress, IsDecimal, IsPercentage}
 use Rattle.lnt_spans.specs.declared.answer.Version.TheVariants.{One, Two}
 use Rattle.lnt_spans.specs.declared.position.Position.{Position}
 use Rattle.lnt_wire.specs.declared.format.Format.{Format}
@@ -77,7 +77,8 @@ abbrev pub subcommands : List Shape
 subcommands =
     subcommand (codes "units") reading
     ∷ subcommand (codes "dump") (flag (codes "ops") ∷ flag (codes "rows") ∷ reading)
-    ∷ subcommand (codes "check") (word (codes "TABLE") ∷ flag (codes "all") ∷ flag (codes "partial") ∷ judging)
+    ∷ subcommand (codes "check") (word (codes "TABLE") ∷ flag (codes "all") ∷ flag (codes "ends") ∷ flag (codes "partial")
+    ∷ option (codes "at-least") ∷ judging)
     ∷ subcommand (codes "verify") judging
     ∷ subcommand (codes "lookup") (several (new_rule (codes "ADDRESS")) ∷ option (codes "addresses") ∷ option (codes "op") ∷ judging)
     ∷ subcommand (codes "files") judging
@@ -173,6 +174,20 @@ pub record ArePositionsIn (rows : List Row) (positions : List Position) : Type 0
   pub is_op : IsOp rows op
   pub same : positions ≡ map (position_at op) addresses
 
+-- the percentage in a word, or 0 without one
+abbrev pub IsPercentageIn : Option Text → ℕ → Type 0
+IsPercentageIn None percentage = percentage ≡ 0
+IsPercentageIn (Some word) percentage = IsPercentage word percentage
+
+-- How a table is checked: ends are those of all positions, and a percentage is that of the positions at which the table answers.
+pub record AreCheckWords (rows : List Row) (all ends partial : Bool) (at_least : ℕ) : Type 0 where
+  pub is_all : IsFlagGiven rows (codes "all") all
+  pub has_ends : IsFlagGiven rows (codes "ends") ends
+  pub ends_of_all : IsTrue ends → IsTrue all
+  pub is_partial : IsFlagGiven rows (codes "partial") partial
+  pub percentage : IsPercentageIn (first_of (codes "at-least") rows) at_least
+  pub of_partial : IsSome (first_of (codes "at-least") rows) → IsTrue partial
+
 -- The question about a good section that the subcommand of this name asks.
 abbrev pub IsQuestion : Text → List Row → Question → Type 0
 IsQuestion name rows Verify = name ≡ codes "verify"
@@ -197,9 +212,8 @@ IsAskedIn name rows (Judge from question) = IsJudging rows from × IsQuestion na
 IsAskedIn name rows (JudgeWith from file (Lines op)) =
     (name ≡ codes "lookup") × IsJudging rows from × IsWord rows (codes "addresses") file.now
     × (all_of (codes "ADDRESS") rows ≡ None) × IsOp rows op
-IsAskedIn name rows (JudgeWith from file (Check all partial)) =
-    (name ≡ codes "check") × IsJudging rows from × IsWord rows (codes "TABLE") file.now × IsFlagGiven rows (codes "all") all
-    × IsFlagGiven rows (codes "partial") partial
+IsAskedIn name rows (JudgeWith from file (Check all ends partial at_least)) =
+    (name ≡ codes "check") × IsJudging rows from × IsWord rows (codes "TABLE") file.now × AreCheckWords rows all ends partial at_least
 
 -- The subcommand that clap found, with its rows, asks for this request.
 pub record IsAskedOf (found : Option (Text × List Row)) (asked : Asked) : Type 0 where
@@ -209,11 +223,17 @@ pub record IsAskedOf (found : Option (Text × List Row)) (asked : Asked) : Type 
   pub request : IsAskedIn name rows asked.request
   pub quiet : IsFlagGiven rows (codes "quiet") asked.quiet
 
+-- the text doesn't begin with the letter y, with which `yes` begins
+abbrev pub IsNoYes : Text → Type 0
+IsNoYes [] = Unit {0}
+IsNoYes (byte ∷ bytes) = byte ≢ 121
+
+-- A text of help, or of the version. It isn't the answer `yes`, nor does it begin so.
 abbrev pub IsHelp : Request → Type 0
-IsHelp (Help text) = Unit {0}
+IsHelp (Help text) = IsNoYes (string_bytes text)
 IsHelp _ = ⊥
 
--- These words ask for help or for the version, by clap's rules. Its text is unspecified.
+-- These words ask for help or for the version, by clap's rules. Of its text no more is said than that it doesn't begin with `yes`.
 abbrev pub AskForHelp : List Text → Type 0
 AskForHelp words = IsAmong DisplayHelp (fault_of linetab words) ⊎ IsAmong DisplayVersion (fault_of linetab words)
 

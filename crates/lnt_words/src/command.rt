@@ -104,15 +104,18 @@ fn free_argument<'a>(alloc: Global, argument: &ArgumentRule) -> Arg<'a>
         Kind::WordsUnless(_) => named(alloc, argument)
             .num_args(1..)
             .action(ArgAction::Append),
-        Kind::Flag | Kind::FlagWithout(_) | Kind::FlagWithoutBoth(_, _) => named(alloc, argument)
-            .long(argument.name)
-            .action(ArgAction::SetTrue),
-        Kind::Valued(value) => valued(alloc, argument, value),
+        Kind::Flag | Kind::FlagWithout(_) | Kind::FlagWithoutBoth(_, _) | Kind::FlagWith(_) => {
+            named(alloc, argument)
+                .long(argument.name)
+                .action(ArgAction::SetTrue)
+        }
+        Kind::Valued(value) | Kind::ValuedWith(value, _) => valued(alloc, argument, value),
         Kind::Required(value) => valued(alloc, argument, value).required(true),
     }
 }
 
-// The argument of this kind, which conflicts with those that it excludes, and is required if it replaces another one.
+// The argument of this kind, which conflicts with those that it excludes, requires the one that it goes with, and is required if it
+// replaces another one.
 fn excluding<'a>(argument: Arg<'a>, kind: Kind) -> Result<Arg<'a>, AllocError> {
     match kind {
         Kind::WordsUnless(other) => argument
@@ -120,6 +123,7 @@ fn excluding<'a>(argument: Arg<'a>, kind: Kind) -> Result<Arg<'a>, AllocError> {
             .conflicts_with(other),
         Kind::FlagWithout(other) => argument.conflicts_with(other),
         Kind::FlagWithoutBoth(one, other) => { argument.conflicts_with(one)?.conflicts_with(other) }
+        Kind::FlagWith(other) | Kind::ValuedWith(_, other) => argument.requires_arg(other),
         Kind::Word | Kind::Flag | Kind::Valued(_) | Kind::Required(_) => Ok(argument),
     }
 }

@@ -39,8 +39,12 @@ pub(crate) enum Kind {
     FlagWithout(&'static str),
     /// The flag `--name`, which conflicts with either of these two.
     FlagWithoutBoth(&'static str, &'static str),
+    /// The flag `--name`, which requires this argument.
+    FlagWith(&'static str),
     /// The option `--name VALUE`; the text is what help calls the value.
     Valued(&'static str),
+    /// The same, which requires the second argument.
+    ValuedWith(&'static str, &'static str),
     /// The same, but required.
     Required(&'static str),
 }
@@ -98,7 +102,9 @@ pub(crate) const SUBCOMMANDS: [Subcommand; 10] = [
         "check" => "Tells whether an address table answers as a section does, or where it doesn't", Some(NUMBERS), JUDGING;
         "TABLE" => Word, "The file with the address table, or - for standard input";
         "all" => Flag, "Tells every place where the two answer differently, and not the first alone";
+        "ends" => FlagWith("all"), "Tells the first position after each of these places too";
         "partial" => Flag, "Compares only where the table answers, and tells how many of the section's addresses that is";
+        "at-least" => ValuedWith("P", "partial"), "Answers no where these are fewer than P of a hundred, from 0 to 100";
     },
     subcommand! {
         "verify" => "Tells whether a section is good, or what is wrong with it", None, JUDGING;
@@ -158,7 +164,8 @@ const NUMBERS: &str = "Lines that begin with no, and the document that says more
   37  a record of the table has too few or too many fields (docs/TABLES.md)
   38  a field of the table is no number of its kind (docs/TABLES.md)
   39  a span of the table is empty, or begins below the end of the one before it (docs/TABLES.md)
-  40  the table and the section answer differently at this position, the least one (docs/TABLES.md)";
+  40  the table and the section answer differently at this position, the least one (docs/TABLES.md)
+  46  the table is right wherever it answers, but at too few of the section's addresses for --at-least (docs/TABLES.md)";
 
 // What the line `no 43` of `table` means.
 const WHOLE: &str = "With --paths or --lines a table says whole instructions alone. \

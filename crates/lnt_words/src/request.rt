@@ -149,7 +149,11 @@ pub enum FileQuestion {
     Check {
         /// Whether all positions at which it doesn't are reported, instead of only the first.
         all: bool,
+        /// Whether the line of each stretch of these positions tells its end too.
+        ends: bool,
         /// Whether they are compared only at the positions at which the table answers.
         partial: bool,
+        /// How many of a hundred addresses of the section a table has to answer then.
+        at_least: u64,
     },
 }

@@ -1,10 +1,11 @@
 //! What the words of the command ask for.
-ghost use Rattle.std.specs.Prelude.{◌≡◌, ◌≢◌, ◌⊎◌, ℕ, IfErr, IfOk, List, codes, map, option_map, string_bytes};
+ghost use Rattle.std.specs.Prelude.{◌≡◌, ◌≢◌, ◌⊎◌, ℕ, IfErr, IfOk, List, codes, false, map, option_copied, option_map, string_bytes};
 ghost use Rattle.clap.specs.Words.{Row, all_of, first_of, kind_of, subcommand_rows_of};
 ghost use Rattle.lnt_words.specs.Described.{IsAskedOfMatches, IsFound, rows_in};
 ghost use Rattle.lnt_text.specs.Digits.{IsAddress};
 ghost use Rattle.lnt_words.specs.Words.{AreAddresses, AreAddressesIn, ArePositionsIn, AskForNothing, IsAskedBy, IsAskedIn, IsAskedOf};
-ghost use Rattle.lnt_words.specs.Words.{IsFlagGiven, IsHelp, IsJudging, IsOp, IsOrder, IsQuestion, IsReading, IsSize, IsWord};
+ghost use Rattle.lnt_words.specs.Words.{IsFlagGiven, IsHelp, IsJudging, IsNoYes, IsOp, IsOrder, IsPercentageIn, IsQuestion, IsReading};
+ghost use Rattle.lnt_words.specs.Words.{IsSize, IsWord};
 ghost use Rattle.lnt_words.specs.Words.{IsWrittenFormat, IsWrittenOrder, Asked as AskedSpec};
 ghost use Rattle.lnt_words.specs.declared.request.Judging.{Judging as JudgingSpec};
 ghost use Rattle.lnt_words.specs.declared.request.Request.{Request as RequestSpec};
@@ -17,7 +18,7 @@ use crate::stop::WordsStop;
 use clap::error::ErrorKind;
 use clap::{ArgMatches, Error};
 use lnt_spans::{Position, Version};
-use lnt_text::{Argument, Shown, address, decimal};
+use lnt_text::{Argument, Shown, address, decimal, percentage};
 use lnt_wire::{Format, Order};
 use std::alloc::{AllocError, Global};
 
@@ -29,7 +30,7 @@ use std::alloc::{AllocError, Global};
 ///
 /// The result is what the words ask for (`IsAskedBy`): which subcommand they name, and the value of each of its arguments,
 /// follows from the words and from the command that `linetab` describes. It is a text of help only if the words ask for help
-/// or for the version.
+/// or for the version. That text doesn't begin with `yes`.
 pub fn request_of<'a>(alloc: Global, words: &'a [String]) -> Result<Asked<'a>, WordsStop>
     ensures asked { IfOk result (IsAskedBy (map string_bytes words.entry.now)) }
     ensures refused { IfErr result (λ stop. (stop ≢ WordsStop.Memory) → AskForNothing (map string_bytes words.entry.now)) }
@@ -50,11 +51,32 @@ fn help_in<'a>(alloc: Global, error: &Error, given: &[String]) -> Result<Asked<'
     match error.kind() {
         ErrorKind::OutOfMemory => Err(WordsStop::Memory),
         ErrorKind::DisplayHelp | ErrorKind::DisplayVersion => Ok(Asked {
-            request: Request::Help(error.to_string(alloc)?),
+            request: Request::Help(help_text(alloc, error)?),
             quiet: true,
         }),
         _ => Err(refusal(alloc, given)),
     }
+}
+
+// The text of help or of the version. No contract of clap says it. Whatever it is, it doesn't begin as the answer `yes` does.
+fn help_text(alloc: Global, error: &Error) -> Result<String, AllocError>
+    ensures { IfOk result (λ text. IsNoYes (string_bytes text)) }
+{
+    let text = error.to_string(alloc)?;
+    if begins_with_y(text.as_bytes()) {
+        return format!(in alloc; "help: {text}");
+    }
+    Ok(text)
+}
+
+// Whether the bytes begin with the letter y.
+fn begins_with_y(bytes: &[u8]) -> bool
+    ensures { result ≡ false → IsNoYes bytes.now }
+{
+    if bytes.is_empty() {
+        return false;
+    }
+    bytes[0] == b'y'
 }
 
 // What clap says of rejected words. Its texts on arguments that exclude one another come from the command in which they do.
@@ -120,7 +142,7 @@ fn request_in<'a>(
         }
         "convert" => convert_in(alloc, words),
         "upgrade" => upgrade_in(alloc, words),
-        "check" => check_in(alloc, words),
+        "check" => check_in(alloc, words, given),
         "lookup" => lookup_in(alloc, words, given),
         "verify" => judge_in(alloc, words, Question::Verify),
         "files" => judge_in(alloc, words, Question::Files),
@@ -130,17 +152,46 @@ fn request_in<'a>(
     }
 }
 
-fn check_in<'a>(alloc: Global, words: &ArgMatches<'a>) -> Result<Request<'a>, WordsStop>
+// What the words of `check` ask for. Ends are those of all positions, and a percentage is that of a part.
+fn check_in<'a>(
+    alloc: Global,
+    words: &ArgMatches<'a>,
+    given: &[String],
+) -> Result<Request<'a>, WordsStop>
     ensures { IsFound (IsAskedIn (codes "check") (rows_in words.now)) result }
 {
+    let (all, ends) = (flag_in(words, "all"), flag_in(words, "ends"));
+    let (partial, percentage) = (flag_in(words, "partial"), str_in(words, "at-least"));
+    if (ends && !all) || (percentage.is_some() && !partial) {
+        return Err(refusal(alloc, given));
+    }
     Ok(Request::JudgeWith {
         from: judging_in(alloc, words)?,
         file: word_in(alloc, words, "TABLE")?,
         question: FileQuestion::Check {
-            all: flag_in(words, "all"),
-            partial: flag_in(words, "partial"),
+            all,
+            ends,
+            partial,
+            at_least: percentage_of(alloc, words, percentage)?,
         },
     })
+}
+
+// The percentage in a word, if there is one, or 0.
+fn percentage_of(
+    alloc: Global,
+    words: &ArgMatches<'_>,
+    word: Option<&str>,
+) -> Result<u64, WordsStop>
+    ensures { IsFound (IsPercentageIn (option_copied word.entry)) result }
+{
+    let Some(word) = word else {
+        return Ok(0);
+    };
+    match percentage(word.as_bytes()) {
+        Some(percentage) => Ok(percentage),
+        None => Err(bad_word(alloc, words, word, Argument::AtLeast)),
+    }
 }
 
 fn read_in<'a>(

@@ -45,7 +45,7 @@ pub fn compare_by_path<S: SpanSource + Drop, P: Paths>(
         return Ok(TableRead::Fault(TableFault::Header));
     };
     let memory = PathMemory::new(alloc)?;
-    let comparison = Comparison::past(memory, spans, whole(0));
+    let comparison = Comparison::past(memory, spans, whole(0), 0);
     let telling = PathTelling {
         alloc,
         paths,

@@ -1,5 +1,5 @@
 //! Lists all stretches of positions at which a section and a table by path answer differently, one after another.
-ghost use Rattle.std.specs.Prelude.{◌≡◌, ◌<◌, ℕ, List, [], ◌∷◌, ◌++◌, map, None, Option, Some, IfOk, IfSome, MatchOption};
+ghost use Rattle.std.specs.Prelude.{◌≡◌, ◌<◌, ℕ, List, [], ◌∷◌, ◌++◌, map, None, Option, Some, IfOk, IfSome, MatchOption, OnOk, ◌≤◌};
 ghost use Rattle.lnt_spans.specs.declared.position.Position as spec_position;
 ghost use Rattle.lnt_spans.specs.declared.span.Span as spec;
 ghost use Rattle.lnt_spans.specs.Partial.{addresses_answered, where_missed};
@@ -8,16 +8,17 @@ ghost use Rattle.lnt_compare.specs.declared.by_path.answer.DifferenceByPath as s
 ghost use Rattle.lnt_compare.specs.Passing.{IsRemembered};
 ghost use Rattle.lnt_compare.specs.Held.{held_span};
 ghost use Rattle.lnt_records.specs.PathSpans.{PathAnswer, spans_by_path, StandInOrder, path_span_answer};
-ghost use Rattle.lnt_compare.specs.PathStretches.{ArePathStretches, stretches_of, told_path_answer};
+ghost use Rattle.lnt_compare.specs.PathStretches.{ArePathStretches, stretch_of, stretches_of, told_path_answer};
 ghost use Rattle.lnt_records.specs.PathTables.{said_answer};
-ghost use Rattle.lnt_compare.specs.Differing.{HasFoundStretchesByPath, path_missed_by, path_stretches_left};
+ghost use Rattle.lnt_compare.specs.Differing.{HasFoundStretchesByPath, IsGoingByPath, path_all_by, path_missed_by, path_stretches_left};
+ghost use Rattle.lnt_spans.specs.AnyStretches.{EndsAt, Stretch};
 
 use crate::by_path::answer::{AnswerByPath, DifferenceByPath};
 use crate::by_path::comparison::whole;
 use crate::by_path::held::HeldSpan;
 use crate::by_path::telling::{PathMemory, PathTelling};
 use lnt_records::{PathVersion, Paths, SaidPath};
-use lnt_spans::{Position, Run, Runs, SpanSource, Stretches, next_stretch};
+use lnt_spans::{Position, Run, Runs, SpanSource, Stretches, next_stretch, stretch_end};
 use std::alloc::{AllocError, Global};
 use std::marker::PhantomData;
 
@@ -55,7 +56,7 @@ impl<'t, S: SpanSource> DifferencesByPath<'t, S> {
         let table = HeldSpans { spans: table };
         DifferencesByPath {
             version,
-            stretches: Stretches::past(section, table, whole(0)),
+            stretches: Stretches::past(section, table, whole(0), 0),
             memory: None,
         }
     }
@@ -80,7 +81,12 @@ impl<'t, S: SpanSource> DifferencesByPath<'t, S> {
         ensures missed { IfOk result (λ found. (by_section by_table : spec_position.Position → Option PathAnswer)
             (told : List spec_difference.DifferenceByPath)
             → HasFoundStretchesByPath S.to_come (P.bytes_of paths.now) self.old by_section by_table (stretches_of told)
-            → found ≡ None → path_missed_by self.new ≡ addresses_answered (where_missed by_table by_section)) }
+            → found ≡ None → (path_missed_by self.new ≡ addresses_answered (where_missed by_table by_section))
+            × (path_all_by self.new ≡ addresses_answered by_section)) }
+        ensures going { IfOk result (λ found. (by_section by_table : spec_position.Position → Option PathAnswer)
+            (told : List spec_difference.DifferenceByPath)
+            → HasFoundStretchesByPath S.to_come (P.bytes_of paths.now) self.old by_section by_table (stretches_of told)
+            → IfSome found (λ difference. IsGoingByPath (P.bytes_of paths.now) self.new by_section by_table (stretch_of difference))) }
         ensures fewer { IfOk result (λ found. IfSome found (λ _.
             path_stretches_left S.left self.new < path_stretches_left S.left self.old)) }
     {
@@ -94,6 +100,45 @@ impl<'t, S: SpanSource> DifferencesByPath<'t, S> {
         let found = next_stretch(&mut self.stretches, &telling, &mut memory)?;
         keep(&mut self.memory, memory);
         Ok(found)
+    }
+
+    /// Passes the rest of the stretch that was given last, and gives its end: the first position after it. The one error is that
+    /// memory ran out: then nothing is known of the state.
+    pub fn stretch_end<P: Paths>(
+        &mut self,
+        alloc: Global,
+        paths: &P,
+    ) -> Result<Position, AllocError>
+        requires { (by_section : spec_position.Position → Option PathAnswer) × (by_table : spec_position.Position → Option PathAnswer)
+            × (told : List spec_difference.DifferenceByPath)
+            × HasFoundStretchesByPath S.to_come (P.bytes_of paths.now) self.old by_section by_table (stretches_of told) }
+        ensures given { OnOk result ((by_section by_table : spec_position.Position → Option PathAnswer)
+            (told : List spec_difference.DifferenceByPath)
+            → HasFoundStretchesByPath S.to_come (P.bytes_of paths.now) self.old by_section by_table (stretches_of told)
+            → HasFoundStretchesByPath S.to_come (P.bytes_of paths.now) self.new by_section by_table (stretches_of told)) }
+        ensures end { IfOk result (λ end. (by_section by_table : spec_position.Position → Option PathAnswer)
+            (told : List spec_difference.DifferenceByPath) (last : Stretch PathAnswer)
+            → HasFoundStretchesByPath S.to_come (P.bytes_of paths.now) self.old by_section by_table (stretches_of told)
+            → IsGoingByPath (P.bytes_of paths.now) self.old by_section by_table last → EndsAt by_section by_table last end) }
+        ensures fewer { OnOk result (path_stretches_left S.left self.new ≤ path_stretches_left S.left self.old) }
+    {
+        let telling = PathTelling {
+            alloc,
+            paths,
+            version: self.version,
+            held: PhantomData,
+        };
+        let mut memory = memory_of(alloc, self.memory.take())?;
+        let end = stretch_end(&mut self.stretches, &telling, &mut memory)?;
+        keep(&mut self.memory, memory);
+        Ok(end)
+    }
+
+    /// The number of addresses, among those that were compared, at which the section answers.
+    pub fn all(&self) -> u128
+        ensures { result ≡ path_all_by self.now }
+    {
+        self.stretches.all()
     }
 
     /// The number of addresses, among those that were compared, at which the section answers and the table doesn't.

@@ -2,7 +2,7 @@
 use crate::cli::streams::{Files, ran};
 use crate::cli::worked::DUMP;
 use crate::samples::{LISTED, PLAIN, TABLE};
-use lnt_cli::{CliStop, FileStop, Status};
+use lnt_cli::{CliStop, Status};
 use std::alloc::Global;
 use std::test::Fail;
 
@@ -11,7 +11,7 @@ fn stops_reading(alloc: Global, line: &str, faulty: &str, good: usize) -> bool {
     let files = Files::failing(&PLAIN, faulty, good);
     let (ended, written) = ran(alloc, files, line, 1000);
     match &ended {
-        Err(CliStop::File(FileStop::Read(name))) => written.is_empty() && name.as_str() == faulty,
+        Err(CliStop::Read(name)) => written.is_empty() && name.as_str() == faulty,
         _ => false,
     }
 }
@@ -38,7 +38,7 @@ fn a_line_before_a_read_that_fails(rt: HostRuntime) {
     let files = Files::failing(&section, "F", 141);
     let (ended, written) = ran(rt.alloc(), files, "linetab units F", 1000);
     assert!(rt; written.as_slice() == b"0x0 32 67\n".as_slice());
-    assert!(rt; matches!(ended, Err(CliStop::File(FileStop::Read(_)))));
+    assert!(rt; matches!(ended, Err(CliStop::Read(_))));
 }
 
 // The complete lines before the fault are answered.
@@ -48,7 +48,7 @@ fn lines_before_a_read_that_fails(rt: HostRuntime) {
     let (ended, written) = ran(rt.alloc(), files, "linetab lookup F --addresses A", 1000);
     let line = b"0x1005,0 unit 0 file 1 line 4 column 0 stmt 1 path \"/s/a.c\"\n";
     assert!(rt; written.as_slice() == line.as_slice());
-    assert!(rt; matches!(ended, Err(CliStop::File(FileStop::Read(_)))));
+    assert!(rt; matches!(ended, Err(CliStop::Read(_))));
 }
 
 // A source file that can't be read through has no sum.
@@ -65,7 +65,7 @@ fn stops_writing(alloc: Global, line: &str, text: &[u8], room: usize) -> bool {
     let (ended, written) = ran(alloc, Files::new(&PLAIN), line, room);
     text.starts_with(written.as_slice())
         && written.len() == room
-        && matches!(ended, Err(CliStop::File(FileStop::Write)))
+        && matches!(ended, Err(CliStop::Write))
 }
 
 #[test]
@@ -91,7 +91,7 @@ fn says(alloc: Global, stop: &CliStop, text: &str) -> bool {
 
 #[test]
 fn a_file_that_is_too_long(rt: HostRuntime) -> Result<(), Fail> {
-    let stop = CliStop::File(FileStop::TooLong(String::from_str(rt.alloc(), "F")?));
+    let stop = CliStop::TooLong(String::from_str(rt.alloc(), "F")?);
     assert!(rt; says(rt.alloc(), &stop, "linetab: F is too long"));
     Ok(())
 }

@@ -1,9 +1,7 @@
 //! Files by their names, and the command over them.
 use crate::samples::{Narrow, Reader, TABLE, failing, whole};
 use lnt_cli::{CliStop, Opener, Status, run};
-use lnt_io::OpenedFile;
 use std::alloc::{AllocError, Global};
-use std::io;
 
 // Files by their names: a section F, its table T, lines of addresses A, and a source file, which holds `abc`. One of them
 // fails after this many bytes.
@@ -49,8 +47,6 @@ impl<'a> Opener for Files<'a> {
         let (bytes, _) = bytes.split_at(self.good.min(bytes.len()));
         Some(failing(bytes))
     }
-
-    fn could_not_read<'n>(&mut self, _file: &OpenedFile<'n, Reader<'a>>) {}
 }
 
 fn words(alloc: Global, line: &str) -> Result<Vec<String>, AllocError> {
@@ -70,7 +66,7 @@ pub(crate) fn ran(
 ) -> (Result<Status, CliStop>, Vec<u8>) {
     let mut out = Narrow::new(alloc, 1, room);
     let ended = match words(alloc, line) {
-        Ok(words) => run(alloc, words, &mut files, &mut out, &mut io::sink()),
+        Ok(words) => run(alloc, words, &mut files, &mut out),
         Err(error) => Err(CliStop::from(error)),
     };
     (ended, out.into_taken())

@@ -77,6 +77,47 @@ impl Read for Pieces<'_> {
     }
 }
 
+/// Gives bytes in pieces, fails once, and counts how often it was read.
+#[derive(Clone, Copy)]
+pub(crate) struct FailsOnce<'a> {
+    bytes: &'a [u8],
+    piece: usize,
+    fails_at: u64,
+    reads: u64,
+}
+
+impl<'a> FailsOnce<'a> {
+    /// Gives at most `piece` bytes at a time. The read after the first `sound` ones is interrupted, and no other.
+    pub(crate) fn new(bytes: &'a [u8], piece: usize, sound: u64) -> FailsOnce<'a> {
+        FailsOnce {
+            bytes,
+            piece,
+            fails_at: sound,
+            reads: 0,
+        }
+    }
+
+    /// How often it was read.
+    pub(crate) fn reads(&self) -> u64 {
+        self.reads
+    }
+}
+
+impl Read for FailsOnce<'_> {
+    fn read(&mut self, buf: &mut [u8]) -> io::Result<usize> {
+        let fails = self.reads == self.fails_at;
+        self.reads = self.reads.saturating_add(1);
+        if fails {
+            return Err(io::Error::from(io::ErrorKind::Interrupted));
+        }
+        let count = self.piece.min(buf.len()).min(self.bytes.len());
+        let (prefix, rest) = self.bytes.split_at(count);
+        buf[..count].copy_from_slice(prefix);
+        self.bytes = rest;
+        Ok(count)
+    }
+}
+
 /// Takes a piece at a time. After some writes it fails each further one.
 #[derive(Drop)]
 pub(crate) struct Narrow {

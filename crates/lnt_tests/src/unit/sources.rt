@@ -1,4 +1,4 @@
-use crate::samples::Pieces;
+use crate::samples::{FailsOnce, Pieces};
 use lnt_io::{Counted, Source, Stop, read_all};
 use std::alloc::{AllocError, Global};
 use std::test::Fail;
@@ -39,6 +39,24 @@ fn sources_that_stop(rt: HostRuntime) {
     assert!(rt; are_stopped(alloc, 100, 0, 70, Stop::Read));
     assert!(rt; are_stopped(alloc, 1, 100, 69, Stop::TooLong));
     assert!(rt; are_stopped(alloc, 100, 100, 0, Stop::TooLong));
+}
+
+// Whether reading stops at the read after the first `sound` ones, which fails, though the next one would not; and none follows it.
+fn stops_at_once(alloc: Global, sound: u64) -> bool {
+    let mut reader = FailsOnce::new(&BYTES, 10, sound);
+    let mut source = Counted::new(&mut reader, 70);
+    let stop = read_all(alloc, &mut source).err();
+    let failures = source.failures();
+    stop == Some(Stop::Read) && failures == 1 && reader.reads() == sound.saturating_add(1)
+}
+
+#[test]
+fn failed_reads_are_not_tried_again(rt: HostRuntime) {
+    let alloc = rt.alloc();
+    // At once, within the bytes, and at the byte after the limit.
+    assert!(rt; stops_at_once(alloc, 0));
+    assert!(rt; stops_at_once(alloc, 3));
+    assert!(rt; stops_at_once(alloc, 7));
 }
 
 // Whether `count` bytes are read by reads of these sizes.

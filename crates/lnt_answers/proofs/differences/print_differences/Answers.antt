@@ -1,6 +1,6 @@
-use Rattle.std.proofs.Common.{◌∙◌, refl}
+use Rattle.std.proofs.Common.{◌∙◌, ap, arith, refl}
 use Rattle.lnt_io.proofs.PrefixLaws.{so_stopped}
-use Rattle.lnt_answers.proofs.ScopeLemmas.{all_printed, printed_more, printed_none, stopped_within}
+use Rattle.lnt_answers.proofs.ScopeLemmas.{all_printed, covered_is, printed_more, printed_none, stopped_within}
 use Rattle.lnt_answers.proofs.StretchLemmas.{more_stretches}
 use Rattle.lnt_answers.proofs.differences.print_differences.Goals as goal
 
@@ -16,12 +16,21 @@ next_difference-requires g c =
     let h = c.loop-difference.invariant.1 known.0 known.1 known.2 in
     (known.0, known.1, h.given, h.so)
 
+pub end_of-end-requires : goal.end_of-end-requires
+end_of-end-requires g c =
+    let known = c.requires in
+    let h = c.loop-difference.invariant.1 known.0 known.1 known.2 in
+    (known.0, known.1, _, c.in-Some.ensures.given known.0 known.1 h.given h.so)
+
 pub loop-difference-preserved : goal.loop-difference-preserved
 loop-difference-preserved g c = (
   c.print.ensures.scope ∙ c.loop-difference.invariant.0,
   λ f f' h.
       let printed = c.loop-difference.invariant.1 f f' h in
-      printed_more c.in-Some.difference printed (c.in-Some.ensures.given f f' printed.given printed.so) c.is_some-is_answered.ensures
+      let told = c.in-Some.ensures.given f f' printed.given printed.so in
+      printed_more c.in-Some.difference c.end_of-end.result printed (c.end_of-end.ensures.given f f' _ told)
+      (c.end_of-end.ensures.end f f' _ c.in-Some.difference told (c.in-Some.ensures.going f f' printed.given printed.so))
+      c.is_some-is_answered.ensures
       (rw c.loop-difference.invariant.0 at c.in_ok-print.ensures.line) (rw c.loop-difference.invariant.0 at c.in_ok-print.ensures.right),
 )
 
@@ -30,13 +39,15 @@ returns-in_err-print-clause-begun g c =
     so_stopped c.from_residual.result _
     (λ f f' h.
     let printed = c.loop-difference.invariant.1 f f' h in
-    stopped_within c.in-Some.difference printed
-    (more_stretches g.S.SpanSource.to_come g.T.SpanSource.to_come c.next_difference.new.self f f' _
-    (c.in-Some.ensures.given f f' printed.given printed.so))
+    let told = c.in-Some.ensures.given f f' printed.given printed.so in
+    stopped_within c.in-Some.difference c.end_of-end.result printed
+    (more_stretches g.S.SpanSource.to_come g.T.SpanSource.to_come c.next_difference.new.self f f' _ told)
+    (c.end_of-end.ensures.end f f' _ c.in-Some.difference told (c.in-Some.ensures.going f f' printed.given printed.so))
     c.is_some-is_answered.ensures (rw c.loop-difference.invariant.0 at c.in_err-print.ensures.prefix))
 
 pub returns-clause-lines : goal.returns-clause-lines
 returns-clause-lines g c f f' h =
     let printed = c.loop-difference.invariant.1 f f' h in
+    let counted = c.in_default.ensures.missed f f' printed.given printed.so refl in
     all_printed printed (c.in_default.ensures.given f f' printed.given printed.so)
-    (c.missed.ensures ∙ c.in_default.ensures.missed f f' printed.given printed.so refl) c.if_right.ensures
+    (c.but.ensures ∙ covered_is f f' _ _ (c.missed.ensures ∙ counted.0) (c.all.ensures ∙ counted.1)) c.if_right.ensures

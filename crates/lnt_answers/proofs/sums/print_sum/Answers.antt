@@ -10,19 +10,19 @@ use Rattle.lnt_answers.proofs.sums.print_sum.Goals as goal
 pub returns-in_err-path-clause-begun : goal.returns-in_err-path-clause-begun
 returns-in_err-path-clause-begun g c =
     so_stopped c.from_residual.result _
-    (sums_unbegun (g.O.Opener.finds c.args.opener.now) c.args.index.now (listed_at c.args.index.now c.args.unit c.args.file)
+    (sums_unbegun (g.O.Files.finds c.args.opener.now) c.args.index.now (listed_at c.args.index.now c.args.unit c.args.file)
     (g.W.Write.contents c.args.out.now))
 
 pub returns-in_err-put_found-clause-begun : goal.returns-in_err-put_found-clause-begun
 returns-in_err-put_found-clause-begun g c =
     so_stopped c.from_residual-in_err-put_found.result _
-    (sums_unbegun (g.O.Opener.finds c.args.opener.now) c.args.index.now (listed_at c.args.index.now c.args.unit c.args.file)
+    (sums_unbegun (g.O.Files.finds c.args.opener.now) c.args.index.now (listed_at c.args.index.now c.args.unit c.args.file)
     (g.W.Write.contents c.args.out.now))
 
 pub returns-in_err-write_whole-clause-begun : goal.returns-in_err-write_whole-clause-begun
 returns-in_err-write_whole-clause-begun g c =
     so_stopped c.from_residual-in_err-write_whole.result _
-    (sum_stopped (g.O.Opener.finds c.args.opener.now) c.args.index.now c.args.unit c.args.file (g.W.Write.contents c.args.out.now)
+    (sum_stopped (g.O.Files.finds c.args.opener.now) c.args.index.now c.args.unit c.args.file (g.W.Write.contents c.args.out.now)
     (g.W.Write.contents c.write_whole.new.out) c.in-Some.listed c.deref.result.now c.deref-2.result.now c.as_slice.result.now
     c.found_of-found.result (search rules) (search rules) (search rules) c.found_of-found.ensures.found
     (text_in_room c.clear.new.self.items c.put_found.new.line.items c.as_slice.result.now _ c.clear.ensures.items c.in_ok-put_found.ensures
@@ -31,7 +31,7 @@ returns-in_err-write_whole-clause-begun g c =
 
 pub returns-clause-sum : goal.returns-clause-sum
 returns-clause-sum g c =
-    sum_listed (g.O.Opener.finds c.args.opener.now) c.args.index.now c.args.unit c.args.file (g.W.Write.contents c.args.out.now)
+    sum_listed (g.O.Files.finds c.args.opener.now) c.args.index.now c.args.unit c.args.file (g.W.Write.contents c.args.out.now)
     (g.W.Write.contents c.write_whole.new.out) c.in-Some.listed c.deref.result.now c.deref-2.result.now c.found_of-found.result
     c.status_of.result (search rules) (search rules) (search rules) c.found_of-found.ensures.found
     (subst (Appends (g.W.Write.contents c.args.out.now) (g.W.Write.contents c.write_whole.new.out))

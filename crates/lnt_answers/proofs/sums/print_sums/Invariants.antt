@@ -5,6 +5,6 @@ use Rattle.lnt_answers.proofs.sums.print_sums.Given as goal
 
 abbrev pub invariant-loop-unit : goal.invariant-loop-unit
 invariant-loop-unit g l =
-    FindsNoMore (g.O.Opener.finds l.fn.opener) (g.O.Opener.finds l.opener)
-    × AreSumsPrinted (g.O.Opener.finds l.fn.opener) l.index (flat_map (listed_in l.index) (take l.unit-index l.index.units))
+    FindsNoMore (g.O.Files.finds l.fn.opener) (g.O.Files.finds l.opener)
+    × AreSumsPrinted (g.O.Files.finds l.fn.opener) l.index (flat_map (listed_in l.index) (take l.unit-index l.index.units))
     (g.W.Write.contents l.fn.out) (g.W.Write.contents l.out) l.status

@@ -5,6 +5,6 @@ use Rattle.lnt_answers.proofs.sums.print_unit_sums.Given as goal
 
 abbrev pub invariant-loop-file : goal.invariant-loop-file
 invariant-loop-file g l =
-    FindsNoMore (g.O.Opener.finds l.fn.opener) (g.O.Opener.finds l.opener)
-    × AreSumsPrinted (g.O.Opener.finds l.fn.opener) l.index (lists_below (listed_at l.index l.unit) l.file)
+    FindsNoMore (g.O.Files.finds l.fn.opener) (g.O.Files.finds l.opener)
+    × AreSumsPrinted (g.O.Files.finds l.fn.opener) l.index (lists_below (listed_at l.index l.unit) l.file)
     (g.W.Write.contents l.fn.out) (g.W.Write.contents l.out) l.status

@@ -7,7 +7,7 @@ use Rattle.lnt_cli.proofs.question.answer_opened.Goals as goal
 
 pub returns-in_err-index-clause-stopped : goal.returns-in_err-index-clause-stopped
 returns-in_err-index-clause-stopped g c =
-    begins_bad c.args.from.now (BeginsGood (g.O.Opener.finds c.args.opener.now) c.args.question.now) _ _ _ _ _
+    begins_bad c.args.from.now (BeginsGood (g.O.Files.finds c.args.opener.now) c.args.question.now) _ _ _ _ _
     c.from_residual-in_err-index.result c.in_err-index.ensures.stopped
 
 pub returns-in_err-status-in-Good-clause-stopped : goal.returns-in_err-status-in-Good-clause-stopped

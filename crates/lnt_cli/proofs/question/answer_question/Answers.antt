@@ -7,10 +7,10 @@ pub returns-clause-answer : goal.returns-clause-answer
 returns-clause-answer g c =
     IfOk-weaker c.answer_opened.result _ _
     (λ answered so.
-    of_section (g.O.Opener.finds c.args.opener.now) c.args.from.now _ _ _ _ c.in_ok-files.ensures.texts c.in_ok-files.ensures.found (
+    of_section (g.O.Files.finds c.args.opener.now) c.args.from.now _ _ _ _ c.in_ok-files.ensures.texts c.in_ok-files.ensures.found (
       so.0,
       so.1,
-      judged_later _ (g.O.Opener.finds c.open_judged.new.opener) c.args.question.now _ _ _ so.0
+      judged_later _ (g.O.Files.finds c.open_judged.new.opener) c.args.question.now _ _ _ so.0
           c.open_judged.ensures.later so.2,
     ))
     c.answer_opened.ensures.answer
@@ -19,9 +19,9 @@ pub returns-clause-stopped : goal.returns-clause-stopped
 returns-clause-stopped g c =
     begun_of _ _ _ c.answer_opened.result c.answer_opened.ensures.stopped
     (λ begun.
-    of_section (g.O.Opener.finds c.args.opener.now) c.args.from.now _ _ _ _ c.in_ok-files.ensures.texts c.in_ok-files.ensures.found (
+    of_section (g.O.Files.finds c.args.opener.now) c.args.from.now _ _ _ _ c.in_ok-files.ensures.texts c.in_ok-files.ensures.found (
       begun.0,
       begun.1,
-      judged_begun_later _ (g.O.Opener.finds c.open_judged.new.opener) c.args.question.now _ _ begun.0
+      judged_begun_later _ (g.O.Files.finds c.open_judged.new.opener) c.args.question.now _ _ begun.0
           c.open_judged.ensures.later begun.2,
     ))

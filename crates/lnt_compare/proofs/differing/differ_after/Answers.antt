@@ -11,7 +11,7 @@ returns-in-Table g c bytes section table rest gathered goes_on coming =
       version = c.args.version;
       table = table ++ items;
       is_table = is_table;
-      so = c.past.ensures _ table rest items coming c.of-records.ensures goes_on.order
+      so = c.past-differences.ensures _ table rest items coming c.of-records.ensures goes_on.order
           (version_order c.args.version bytes (table ++ items) is_table)
-          (version_told c.args.version bytes (table ++ items) is_table) goes_on.end_is goes_on.same;
+          (version_told c.args.version bytes (table ++ items) is_table) goes_on.end_is goes_on.answered_is goes_on.same;
     }

@@ -1,7 +1,7 @@
 use Rattle.std.proofs.Common.{◌∙◌, ℕ, List, [], ◌∷◌, ◌++◌, refl, subst, sym}
 use Rattle.lnt_compare.specs.Passing.{Passes}
 use Rattle.lnt_compare.proofs.JoiningLemmas.{left_first, left_more, left_next}
-use Rattle.lnt_compare.proofs.PassingLemmas.{filled, line_added, no_lines_of}
+use Rattle.lnt_compare.proofs.PassingLemmas.{answered_pushed, filled, line_added, no_lines_of}
 use Rattle.lnt_compare.proofs.WindowLaws.{passes_line, passes_none}
 use Rattle.lnt_compare.proofs.passing.pass_spans.Goals as goal
 
@@ -13,7 +13,7 @@ loop-joined-init g c = (
   c.requires.sound,
   passes_none _ _ _,
   no_lines_of _ _ _ _,
-  λ list come order. left_first _ _ list (c.of-joined.ensures list come) order,
+  λ list come order. (left_first _ _ list (c.of-joined.ensures list come) order, refl),
 )
 
 pub returns-then-not-branch-clause-ok : goal.returns-then-not-branch-clause-ok
@@ -27,8 +27,8 @@ returns-then-not-branch-clause-ok g c =
           (g.T.Source.left c.args.source.now) (g.T.Source.left c.pass_line.new.source) c.args.window.now window inv.0) (sym passed.2)
           (filled _ _ _ _ _ _ _ _ _ inv.0 inv.4 passed.1),
       inv.5,
-      λ list come order. left_next _ _ _ _ list inv.1 c.in-Some.span (inv.6 list come order) left
-          c.remaining-spans.ensures,
+      λ list come order. let off = inv.6 list come order in
+          (left_next _ _ _ _ list inv.1 c.in-Some.span off.0 left c.remaining-spans.ensures, off.1),
     )
 
 pub loop-joined-preserved : goal.loop-joined-preserved
@@ -43,5 +43,7 @@ loop-joined-preserved g c =
       c.in_ok-pass_line.ensures.sound,
       passes_line _ _ _ _ _ _ _ inv.0 _ (filled _ _ _ _ _ _ _ _ _ inv.0 inv.4 passed.1) line.joined,
       rw c.in_ok-count.ensures.next (line_added _ _ _ _ inv.0 inv.1 _ _ c.in-Some.span _ _ inv.5 line),
-      λ list come order. left_more _ _ _ list inv.1 c.in-Some.span (inv.6 list come order) left,
+      λ list come order. let off = inv.6 list come order in
+          let more = left_more _ _ _ list inv.1 c.in-Some.span off.0 left in
+          (more, answered_pushed inv.1 more.rest c.in-Some.span _ _ more.order off.1 c.add_between.ensures),
     )

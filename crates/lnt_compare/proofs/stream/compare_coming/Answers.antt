@@ -37,6 +37,7 @@ returns-clause-ok g c =
       end = c.in_ok-passed.passed.end;
       lines = spans.3;
       spans = c.in_ok-passed.passed.spans;
+      answered = c.in_ok-passed.passed.answered;
       left = spans.4;
       old = c.past-state.result;
       past = c.past-state.ensures.past;

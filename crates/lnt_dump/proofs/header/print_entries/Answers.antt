@@ -8,7 +8,7 @@ loop-index-init g c = search (rules, at_first)
 
 pub loop-index-preserved : goal.loop-index-preserved
 loop-index-preserved g c =
-    at_next c.format-format.ensures c.pairs-pairs.ensures c.loop-index.invariant (search rules) c.in_ok-put_line.ensures
+    at_next c.format-format.ensures c.pairs-pairs.ensures c.loop-index.invariant (search rules) c.in_ok-put_line.ensures.ok
     c.in_ok-turn_full.ensures.ok
 
 pub put_line-requires : goal.put_line-requires
@@ -23,7 +23,7 @@ returns-in_err-put_line-clause-prefix g c =
 pub returns-in_err-turn_full-clause-prefix : goal.returns-in_err-turn_full-clause-prefix
 returns-in_err-turn_full-clause-prefix g c =
     so_stopped c.from_residual-in_err-turn_full.result _
-    (line_cut c.format-format.ensures c.pairs-pairs.ensures c.loop-index.invariant (search rules) c.in_ok-put_line.ensures
+    (line_cut c.format-format.ensures c.pairs-pairs.ensures c.loop-index.invariant (search rules) c.in_ok-put_line.ensures.ok
     c.in_err-turn_full.ensures.prefix)
 
 pub returns-clause-ok : goal.returns-clause-ok

@@ -9,5 +9,5 @@ pub returns-in_err-print_entries-clause-prefix : goal.returns-in_err-print_entri
 returns-in_err-print_entries-clause-prefix g c =
     so_stopped c.from_residual-in_err-print_entries.result _
     (directories_cut c.args.frame.now c.args.header.now _ c.directories.result.now c.args.page.now.items c.put_numbers.new.text.items
-    c.numbers.ensures.numbers c.directories.ensures.pairs c.directories.ensures.entries c.in_ok-put_numbers.ensures
+    c.numbers.ensures.numbers c.directories.ensures.pairs c.directories.ensures.entries c.in_ok-put_numbers.ensures.ok
     c.in_err-print_entries.ensures.prefix)

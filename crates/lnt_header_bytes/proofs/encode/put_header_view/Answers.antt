@@ -1,6 +1,6 @@
 use Rattle.std.proofs.Common.{rules, subst, IfErr}
 use Rattle.lnt_header.specs.Encoding.{RefusedPut}
-use Rattle.lnt_header.specs.declared.header.HeaderParts.{HeaderParts}
+use Rattle.lnt_header.specs.Parts.{HeaderParts}
 use Rattle.lnt_header_bytes.specs.HeaderBytes.{HeaderBytesIn}
 use Rattle.lnt_header_bytes.proofs.LargeLemmas.{too_large_refused}
 use Rattle.lnt_header_bytes.proofs.encode.put_header_view.Goals as goal

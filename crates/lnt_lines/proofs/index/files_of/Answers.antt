@@ -2,7 +2,7 @@ use Rattle.std.proofs.Common.{◌≡◌, ◌∙◌, ◌++◌, ◌∷◌, [], get
 use Rattle.std.specs.List.{AllZip}
 use Rattle.std.proofs.lemmas.List.{get_or_default, take_more}
 use Rattle.std.proofs.lemmas.Slice.Zip.{all_zipped_more}
-use Rattle.lnt_header.specs.declared.header.HeaderParts.{HeaderParts}
+use Rattle.lnt_header.specs.Parts.{HeaderParts}
 use Rattle.lnt_machine.specs.Walking.{KeptProgram}
 use Rattle.lnt_files.specs.Files.{AreFilesOf, KeptFile}
 use Rattle.lnt_lines.proofs.index.files_of.Goals as goal

@@ -1,7 +1,7 @@
 use Rattle.std.proofs.Common.{◌∙◌, ap, arith}
 use Rattle.std.proofs.lemmas.Result.{err_from_is_err_and}
 use Rattle.std.proofs.lemmas.Grind.{common_steps}
-use Rattle.lnt_header.specs.declared.header.HeaderParts.{HeaderParts}
+use Rattle.lnt_header.specs.Parts.{HeaderParts}
 use Rattle.lnt_machine.proofs.MatrixLemmas.{made_out, made_quiet, made_row, made_sequences}
 use Rattle.lnt_machine.proofs.RanLaws.{ran_all, ran_first, ran_open, ran_whole}
 use Rattle.lnt_machine.proofs.SequenceLaws.{cut_none}

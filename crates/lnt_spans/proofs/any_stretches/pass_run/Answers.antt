@@ -11,18 +11,22 @@ returns-then-not-step-clause-given g c f f' told h =
     let new = c.take_step.new.stretches in
     let table = c.in_ok-step.ensures.table ∙ c.loop-step.invariant.table in
     let end = c.run_at-run.ensures.end ∙ ap (λ side. g.N.Runs.end side from) (sym table) in
-    given_left g.S.SpanSource.to_come g.N.Runs.is_at g.N.Runs.value_of (g.T.Telling.tell c.args.telling.now) g.T.Telling.said
-    c.run_at-run.result new f f' (told_with (g.T.Telling.tell c.args.telling.now) g.T.Telling.said told c.in-Some.step) from
-    c.pass_to.new.self
-    (rw c.in-Some.is at c.in_ok-step.ensures.given from f f' told (c.loop-step.invariant.told f f' told h))
-    (λ values began past up. c.pass_to.ensures.at from values began past (subst (IsUpTo new.at) end up))
+    let on = rw c.in-Some.is at c.in_ok-step.ensures.given from f f' told (c.loop-step.invariant.told f f' told h) in (
+      given_left g.S.SpanSource.to_come g.N.Runs.is_at g.N.Runs.value_of (g.T.Telling.tell c.args.telling.now) g.T.Telling.said
+          c.run_at-run.result new f f' (told_with (g.T.Telling.tell c.args.telling.now) g.T.Telling.said told c.in-Some.step) from
+          c.pass_to.new.self
+          on.0 (λ values began past up. c.pass_to.ensures.at from values began past (subst (IsUpTo new.at) end up)),
+      λ unknown.
+          let going = on.1 unknown in
+          record { section = going.section; table = going.table; differ = going.differ; lasts = going.lasts },
+    )
 
 pub returns-then-not-step-clause-fewer : goal.returns-then-not-step-clause-fewer
 returns-then-not-step-clause-fewer g c =
     let old = c.args.stretches.now in
     let new = c.take_step.new.stretches in
     let h = c.requires.given in
-    let told = rw c.in-Some.is at c.in_ok-step.ensures.given old.at h.0 h.1 h.2 (c.loop-step.invariant.told h.0 h.1 h.2 h.3) in
+    let told = (rw c.in-Some.is at c.in_ok-step.ensures.given old.at h.0 h.1 h.2 (c.loop-step.invariant.told h.0 h.1 h.2 h.3)).0 in
     let fewer = rw c.in-Some.is at c.in_ok-step.ensures.fewer in
     let table = c.in_ok-step.ensures.table ∙ c.loop-step.invariant.table in
     let end = c.run_at-run.ensures.end ∙ ap (λ side. g.N.Runs.end side old.at) (sym table) in
@@ -35,15 +39,15 @@ pub loop-step-preserved : goal.loop-step-preserved
 loop-step-preserved g c =
     let old = c.args.stretches.now in
     let h = c.requires.given in
-    let told = rw c.in-Some.is at c.in_ok-step.ensures.given old.at h.0 h.1 h.2 (c.loop-step.invariant.told h.0 h.1 h.2 h.3) in
+    let told = (rw c.in-Some.is at c.in_ok-step.ensures.given old.at h.0 h.1 h.2 (c.loop-step.invariant.told h.0 h.1 h.2 h.3)).0 in
     let fewer = rw c.in-Some.is at c.in_ok-step.ensures.fewer in
     record {
       sound = c.in_ok-step.ensures.sound;
       recalled = c.in_ok-step.ensures.recalled;
       past = c.if-is_reached.ensures told.table.valued.up_to;
       table = c.in_ok-step.ensures.table ∙ c.loop-step.invariant.table;
-      told = λ f f' told h. rw (c.in-Some.is, c.if-not-step.false) at c.in_ok-step.ensures.given old.at f f' told
-          (c.loop-step.invariant.told f f' told h);
+      told = λ f f' told h. (rw (c.in-Some.is, c.if-not-step.false) at c.in_ok-step.ensures.given old.at f f' told
+          (c.loop-step.invariant.told f f' told h)).0;
       fewer = omega (arith, fewer.0, c.loop-step.invariant.fewer);
     }
 

@@ -1,10 +1,10 @@
-use Rattle.std.proofs.Common.{inl, inr, subst, option_map}
+use Rattle.std.proofs.Common.{Bool, inl, inr, refl, subst, option_map}
 use Rattle.lnt_spans.specs.Runs.{IsAheadAt, IsUpTo}
-use Rattle.lnt_spans.specs.Stepping.{IsInRun}
+use Rattle.lnt_spans.specs.Stepping.{IsInRun, IsKnown}
 use Rattle.lnt_spans.proofs.InRunLemmas.{followed, run_on}
 use Rattle.lnt_spans.proofs.PositionLaws.{below_is_at_most}
 use Rattle.lnt_spans.proofs.SideLemmas.{side_on, side_run}
-use Rattle.lnt_spans.proofs.StretchLemmas.{both_move, given_all, step_counted, step_told}
+use Rattle.lnt_spans.proofs.StretchLemmas.{both_move, given_all, step_answered, step_counted, step_told}
 use Rattle.lnt_spans.proofs.any_stretches.take_step.Goals as goal
 
 pub returns-in_default-clause-given : goal.returns-in_default-clause-given
@@ -34,17 +34,27 @@ returns-clause-given g c from f f' told h =
     run.answer c.run_at-section.result.end run.end h.section h.table c.run_at-section.ensures.run
     (λ values s. run_on g.N.Runs.is_at g.N.Runs.value_of said run from own.table f' own.at values s c.requires.past)
     c.in-Some.ensures in
-    let le = below_is_at_most moves.below in
-    record {
-      section = side_on (IsAheadAt g.S.SpanSource.to_come) (λ answer. answer) tell own.section c.pass_to.new.self own.at end f h.section le
-          (λ values at. c.pass_to.ensures.at own.at values at le (subst (IsUpTo end) c.run_at-section.ensures.end c.in-Some.ensures.0));
-      table = side_on within g.N.Runs.value_of said own.table own.table own.at end f' h.table le
-          (λ values s. followed g.N.Runs.is_at g.N.Runs.value_of said run from own.table f' own.at end values le c.in-Some.ensures.1 s);
-      below = step_told f f' own.at end (option_map tell own.before.section) (option_map said own.before.table) (option_map tell section)
-          (option_map said run.answer) told c.in_ok-is_known.is_known h.below moves c.in_ok-is_known.ensures.known;
-      counted = step_counted tell said f f' own.at end section run.answer own.missed c.count_missed.new.missed moves h.counted
-          c.count_missed.ensures;
-    }
+    let le = below_is_at_most moves.below in (
+      record {
+        section = side_on (IsAheadAt g.S.SpanSource.to_come) (λ answer. answer) tell own.section c.pass_to.new.self own.at end f h.section le
+            (λ values at. c.pass_to.ensures.at own.at values at le (subst (IsUpTo end) c.run_at-section.ensures.end c.in-Some.ensures.0));
+        table = side_on within g.N.Runs.value_of said own.table own.table own.at end f' h.table le
+            (λ values s. followed g.N.Runs.is_at g.N.Runs.value_of said run from own.table f' own.at end values le c.in-Some.ensures.1 s);
+        below = step_told f f' own.at end (option_map tell own.before.section) (option_map said own.before.table) (option_map tell section)
+            (option_map said run.answer) told c.in_ok-is_known.is_known h.below moves c.in_ok-is_known.ensures.known;
+        counted = step_counted tell said f f' own.at end section run.answer own.missed c.count_missed.new.missed moves h.counted
+            c.count_missed.ensures;
+        all_counted = step_answered tell f f' own.at end section (option_map said run.answer) own.all c.count_answered.new.answered moves
+            h.all_counted c.count_answered.ensures;
+      },
+      λ unknown. record {
+        section = refl;
+        table = refl;
+        differ = (subst (λ (known : Bool). IsKnown known (option_map tell section) (option_map said run.answer)
+            (option_map tell own.before.section) (option_map said own.before.table)) unknown c.in_ok-is_known.ensures.known).0;
+        lasts = record { past = moves.below; stay = moves.stay };
+      },
+    )
 
 pub returns-clause-fewer : goal.returns-clause-fewer
 returns-clause-fewer g c =

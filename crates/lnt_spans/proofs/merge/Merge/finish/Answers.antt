@@ -8,10 +8,10 @@ returns-in_default g c spans by_table m =
     let to_come = g.S.SpanSource.to_come in
     let tell = g.T.Telling.tell c.args.telling.now in
     elim c.if-is_some.branch [
-      | then-is_some w ↦ found_mistaken to_come tell g.T.Telling.value_of c.args.self spans by_table _ w.if-is_some.ensures m
+      | then-is_some w ↦ found_mistaken to_come tell g.T.Telling.value_of c.args.self spans by_table _ _ w.if-is_some.ensures m
       | else-is_some w ↦
           found_ended to_come tell g.T.Telling.value_of c.args.self spans by_table _ w.if-is_some.ensures (sym w.next-is ∙ c.in_default.is)
-          refl m
+          c.sum.ensures m
     ]
 
 pub returns : goal.returns
@@ -20,10 +20,10 @@ returns g c spans by_table m =
       | then-is_some w ↦ let none : None ≡ Some c.in-Some.span = sym w.next-is ∙ c.in-Some.is in absurd cc
       | else-is_some w ↦
           found_more g.S.SpanSource.to_come (g.T.Telling.tell c.args.telling.now) g.T.Telling.value_of c.args.self spans by_table
-          c.in-Some.span c.match-gap.gap c.add_between.new.count c.count_rest.result w.if-is_some.ensures (sym w.next-is ∙ c.in-Some.is)
+          c.in-Some.span c.match-gap.gap c.add_between.new.count c.count_rest-missed.result c.sum-2.result w.if-is_some.ensures (sym w.next-is ∙ c.in-Some.is)
           (elim c.match-gap.branch [
             | in-Some-gap v ↦ inl (v.in-Some-gap.is ∙ ap Some (sym v.gap-is))
             | in-None+in_ok-gap-in-None v ↦ inr (v.in-None.is, ap g.T.Telling.value_of v.gap-is ∙ v.in_ok-gap-in-None.ensures)
           ])
-          c.add_between.ensures c.count_rest.ensures m
+          c.add_between.ensures c.count_rest-missed.ensures c.sum-2.ensures m
     ]

@@ -12,8 +12,13 @@ next_stretch-requires-clause-given g c = let h = c.requires in (h.0, h.1, stretc
 pub returns-clause-given : goal.returns-clause-given
 returns-clause-given g c f f' told h =
     told_next g.S.SpanSource.to_come (g.P.Paths.bytes_of c.args.paths.now) c.args.self.now.version c.next_stretch.new.stretches
-    c.keep.new.kept f f' told c.in_ok-found.found _ (rw c.keep.ensures c.in_ok-found.ensures.sound)
+    c.keep.new.kept f f' told c.in_ok-found.found _ _ (rw c.keep.ensures c.in_ok-found.ensures.sound)
     (c.in_ok-found.ensures.given f f' (stretches_of told) h.given)
 
 pub returns-clause-missed : goal.returns-clause-missed
-returns-clause-missed g c f f' told h e = (rw e at c.in_ok-found.ensures.given f f' (stretches_of told) h.given).1
+returns-clause-missed g c f f' told h e =
+    let all = rw e at c.in_ok-found.ensures.given f f' (stretches_of told) h.given in
+    (all.1, all.2)
+
+pub returns-clause-going : goal.returns-clause-going
+returns-clause-going g c f f' told h = c.in_ok-found.ensures.going f f' (stretches_of told) h.given

@@ -1,0 +1,18 @@
+use Rattle.std.proofs.Common.{◌≡◌, ◌+◌}
+use Rattle.lnt_unit.specs.declared.reader.Progress.TheVariants.{Reading}
+use Rattle.lnt_unit.specs.Readers.{loan_of, offset_of, order_of, progress_of, source_of}
+use Rattle.lnt_dump.proofs.Dumps.{UnitsPrinted}
+use Rattle.lnt_dump.proofs.dump.print_each.Given as goal
+
+abbrev pub invariant-loop-page : goal.invariant-loop-page
+invariant-loop-page g l = record {
+  reading : progress_of l.reader ≡ Reading;
+  failures : g.R.Source.failures (source_of l.reader) ≡ g.R.Source.failures (source_of l.fn.reader);
+  left : g.R.Source.left (source_of l.reader) + offset_of l.reader ≡ g.R.Source.left (source_of l.fn.reader);
+  same_reference : loan_of l.reader ≡ loan_of l.fn.reader;
+  printed : UnitsPrinted l.fn.order l.fn.shown (g.R.Source.remaining (source_of l.fn.reader)) (g.R.Source.remaining (source_of l.reader))
+      (g.W.Write.contents l.fn.out) (g.W.Write.contents l.out) (order_of l.reader) (offset_of l.reader);
+}
+
+abbrev pub decreases-loop-page : goal.decreases-loop-page
+decreases-loop-page g l = g.R.Source.left (source_of l.reader)

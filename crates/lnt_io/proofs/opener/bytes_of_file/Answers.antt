@@ -1,5 +1,0 @@
-use Rattle.std.proofs.Common.{rules}
-use Rattle.lnt_io.proofs.opener.bytes_of_file.Goals as goal
-
-pub returns-clause-err : goal.returns-clause-err
-returns-clause-err g c = search rules

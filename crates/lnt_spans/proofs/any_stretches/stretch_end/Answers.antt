@@ -1,0 +1,16 @@
+use Rattle.std.proofs.Common.{arith}
+use Rattle.lnt_spans.proofs.any_stretches.stretch_end.Goals as goal
+
+pub loop-preserved : goal.loop-preserved
+loop-preserved g c = record {
+  sound = c.in_ok-goes_on.ensures.sound;
+  told = λ f f' told h. c.in_ok-goes_on.ensures.given f f' told (c.loop.invariant.told f f' told h);
+  going = λ f f' told last h going. rw c.if-branch.true at c.in_ok-goes_on.ensures.on f f' told last (c.loop.invariant.told f f' told h)
+      (c.loop.invariant.going f f' told last h going);
+  fewer = let fewer = rw c.if-branch.true at c.in_ok-goes_on.ensures.fewer in omega (arith, fewer, c.loop.invariant.fewer);
+}
+
+pub returns-clause-end : goal.returns-clause-end
+returns-clause-end g c f f' told last h going =
+    rw c.if-branch.false at c.in_ok-goes_on.ensures.on f f' told last (c.loop.invariant.told f f' told h)
+    (c.loop.invariant.going f f' told last h going)
