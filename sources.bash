@@ -79,6 +79,16 @@ make_folder() { # FOLDER
   (umask 022; mkdir -p "$1") && [ -w "$1" ] || { echo "${0##*/}: nothing can be written to $1" >&2; return 1; }
 }
 
+# Fails with a line where what is put under a prefix would be in the place of sources, which are read for it.
+not_onto_sources() { # PREFIX
+  local place
+  for place in "$1" "$1/bin" "$1/include" "$1/share" "$1/share/linetab" "$1/share/doc/linetab"; do
+    [ "$place" -ef "$top" ] || [ "$place" -ef "$top/include" ] || [ "$place" -ef "$top/share" ] || continue
+    echo "${0##*/}: $place has the sources, which would be overwritten: give another prefix than $1" >&2
+    return 2
+  done
+}
+
 # Puts a file of this mode in a place, whatever the umask. What stands there is the file before or the whole new one. (With the top
 # of the repository on the PATH, `install` would be the script.)
 put() { # MODE FILE PLACE

@@ -17,11 +17,14 @@ assert producers.shown(producers.APART + " && rm app.debug") == "`APART && rm ap
 assert all(tools and command for _, cases in producers.PARTS for tools, command, *_ in cases)
 assert all(tools and command != advised for tools, command, advised in producers.ADVISED)
 # Followed advice, of programs that were made elsewhere: as it is, of another option, and of one that doesn't help.
-note = "its unit is of version 4; linetab reads DWARF 5 alone: compile with -g5, or -g6; with --older it is upgraded first"
-said = {"cc -g": ("no 25 malformed at 0x1f: version 4", [note], "yes"), "cc -g5": ("yes", [], "")}
-producers.asked = lambda command, target="app": said.get(command, ("no 25", [], ""))
-assert producers.row(([], "cc -g"), {}) == ("`cc -g`", "no 25: version 4 | yes | compile with -g5, or -g6")
-assert producers.row(([], "cc -g5"), {}) == ("`cc -g5`", "yes |  | ")
+note = "its unit is of version 4; linetab reads DWARF 5 alone: without --no-older it is upgraded first; to build it anew: compile with -g5, or -g6"
+upgraded = "its 2 units of version 3 and 4 were upgraded to version 5: offsets of units are others, which linetab-object upgrade prints"
+said = {("cc -g",): ("yes", [upgraded]), ("cc -g", "--no-older"): ("no 25 malformed at 0x1f: version 4", [note]), ("cc -g5",): ("yes", [])}
+producers.asked = lambda command, target="app", *options: said.get((command, *options), ("no 25", []))
+often = {}
+assert producers.row(([], "cc -g"), often) == ("`cc -g`", "yes | *version 3 and 4*")
+assert often == {"version 3 and 4": upgraded}
+assert producers.row(([], "cc -g5"), {}) == ("`cc -g5`", "yes | ")
 wrong = []
 print(producers.followed(([], "cc -g", "cc -g5"), wrong)[1].rpartition(" | ")[2])
 assert not wrong
@@ -29,6 +32,8 @@ producers.followed(([], "cc -g", "cc -g6"), wrong)
 producers.followed(([], "cc -g", "cc -g7"), wrong)
 assert [it.split(": ")[1] for it in wrong] == ["no 25", "-g7 isn't what is advised", "no 25"], wrong
 END
+expect 'bench/dump_syms onto itself' 64 '' $'bench/dump_syms: bench has this script, which would be overwritten: give another folder\n' \
+  unwritten bench/dump_syms bench
 if here 'tables by bench/makers' cc objcopy; then
   mkdir "$work/bin"
   # In the place of Breakpad's, which may not be here: a function for each span of the program's own table.

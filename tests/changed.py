@@ -58,9 +58,10 @@ HELP = "Tells whether\n\nUsage: linetab verify [OPTIONS] <SECTION>\n\nArguments:
 
 def loaded(chance):
     """The function by which linetab-object answers about a file, without its program and what it tells."""
-    sys.path.insert(0, os.path.join(TOP, "share", "object"))
-    folder = os.listdir(sys.path[0])
-    modules = {name[:-3]: importlib.import_module(name[:-3]) for name in folder if name.endswith(".py")}
+    sys.path.insert(0, os.path.join(TOP, "share"))
+    folder = os.listdir(os.path.join(sys.path[0], "scripts", "object"))
+    names = [name[:-3] for name in folder if name.endswith(".py") and name != "__init__.py"]
+    modules = {name: importlib.import_module("scripts.object." + name) for name in names}
 
     class Made(modules["program"].Run):
         def __init__(self, *_, **__):
@@ -73,7 +74,9 @@ def loaded(chance):
     words = modules["words"]
     word = words.Word("verify", HELP)
     given = [words.Given(word, typed) for typed in ([], ["--older"])]
-    return modules["bounded"].Refusal, lambda path: modules["command"].answer(word, chance.choice(given), path, Nowhere())
+    from scripts.bounded import Refusal
+
+    return Refusal, lambda path: modules["command"].answer(word, chance.choice(given), path, Nowhere())
 
 
 class Nowhere:
@@ -83,6 +86,9 @@ class Nowhere:
         pass
 
     def end(self, status):
+        pass
+
+    def know(self, **facts):
         pass
 
 

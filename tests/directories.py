@@ -11,10 +11,10 @@ import signal
 import sys
 
 TOP = os.path.dirname(os.path.dirname(os.path.abspath(__file__)))
-sys.path.insert(0, os.path.join(TOP, "share", "object"))
-from bounded import Part, Refusal, opened  # noqa: E402
-from directories import Directories, section_of  # noqa: E402
-from image import LINE, Image, image_of  # noqa: E402
+sys.path.insert(0, os.path.join(TOP, "share"))
+from scripts.bounded import Part, Refusal, opened  # noqa: E402
+from scripts.object.directories import Directories, section_of  # noqa: E402
+from scripts.object.image import LINE, Image, image_of  # noqa: E402
 
 TEXTS = (b"/w", b"/w/src, and more", b'/w/"quoted"', b"/w/line\nfeed", b"rel/ative", b"/\xff\xfe", b"C:\\w", b"/w/" + b"long/" * 300)
 STRING, STRP, LINE_STRP, STRX, GNU_INDEX = 0x08, 0x0E, 0x1F, 0x1A, 0x1F02
@@ -117,8 +117,11 @@ class File:
         self.abbrev += b"\0\0\0"
         entry = leb(code) + b"".join(content for _, _, content in listed)
         self.add_unit(version if fault != "version" else chance.choice((1, 6)), width, address, table, entry)
+        names = [name for name, _, _ in listed]
+        # Of a unit of line numbers that is of version 5 no directory is wanted, as soon as it is known.
+        is_known = fault == "place" or fault == "form" and names.index(0x10) < names.index(0x2001)
         if fault:
-            self.broken += 1
+            self.broken += line_version < 5 or not is_known
         elif has_directory and line_version < 5:
             self.wanted.append((str(at), text.decode("latin-1")))
 

@@ -53,10 +53,14 @@ def whole(mark, functions, shared):
     return out + bytes(first - len(out)) + bodies
 
 
-order, name, *many = sys.argv[1:]
-listed = SMALL
-if many:
-    long_table = bytes([0x7F, 2, 1]) + bytes([4 + 4 + 1, 4 + 1]) * 8 * int(many[0]) + bytes(1)
-    listed = [(0x1000 + 16 * k, 16, long_table) for k in range(int(many[0]))]
-with open(name, "wb") as file:
-    file.write(whole("<" if order == "little" else ">", listed, bool(many)))
+def main(order, name, *many):
+    listed = SMALL
+    if many:
+        long_table = bytes([0x7F, 2, 1]) + bytes([4 + 4 + 1, 4 + 1]) * 8 * int(many[0]) + bytes(1)
+        listed = [(0x1000 + 16 * k, 16, long_table) for k in range(int(many[0]))]
+    with open(name, "wb") as file:
+        file.write(whole("<" if order == "little" else ">", listed, bool(many)))
+
+
+if __name__ == "__main__":
+    main(*sys.argv[1:])

@@ -4,7 +4,9 @@ FORMAT is elf64, elf64-big, elf32, elf32-big, pe, pe32, macho, macho32-big, fat 
 wasm. A WORD is NAME=FILE, a section with the bytes of a file; z:NAME=FILE, compressed with a header of ELF's own; zstd:NAME=FILE,
 with such a header before the bytes of a file that zstd made; gnu:NAME=FILE, compressed as .zdebug; claims=SIZE, what the headers of
 compressed sections say that they hold; code=ADDRESS,SIZE, code without bytes; link=NAME,FILE, a debug link with the sum of the file;
-id=DIGITS, a build id; object, core; dwo, module: sections that split debug information and kernel modules have; damaged: the
+id=DIGITS, a build id; alt=NAME,DIGITS, a section as dwz makes it, with the name and the build id of a supplementary file; sup=NAME,DIGITS,
+the same as DWARF 5 has it, or without a name that of the supplementary file; load=ADDRESS, a segment of ELF that is loaded there; symbol=NAME,ADDRESS,SIZE, a function of ELF's table of
+symbols; object, core; dwo, module: sections that split debug information and kernel modules have; damaged: the
 compressed sections end early."""
 
 import os
@@ -40,13 +42,41 @@ def packed_part(order, wide, kind, size, packed):
     return struct.pack(order + ("IIQQ" if wide else "III"), *((kind, 0, size, 1) if wide else (kind, size, 1))) + packed
 
 
+def symbols(words, order, wide):
+    """The table of symbols and its names, where words name functions."""
+    listed = [word[7:].split(",") for word in words if word.startswith("symbol=")]
+    if not listed:
+        return
+    names, table = b"\0", bytes(24 if wide else 16)
+    for name, address, size in listed:
+        numbers = int(address, 0), int(size, 0)
+        if wide:
+            table += struct.pack(order + "IBBHQQ", len(names), 2, 0, 1, *numbers)
+        else:
+            table += struct.pack(order + "IIIBBH", len(names), *numbers, 2, 0, 1)
+        names += os.fsencode(name) + b"\0"
+    yield ".symtab", table, 2, 0, 0, None
+    yield ".strtab", names, 3, 0, 0, None
+
+
+def segments(words, order, wide):
+    """The headers of segments that are loaded."""
+    for word in words:
+        if word.startswith("load="):
+            address = int(word[5:], 0)
+            if wide:
+                yield struct.pack(order + "IIQQQQQQ", 1, 5, 0, address, address, 64, 64, 4096)
+            else:
+                yield struct.pack(order + "IIIIIIII", 1, 0, address, address, 52, 52, 5, 4096)
+
+
 def parts_of(words, order, wide):
     """The sections: name, bytes, ELF's kind and flags, address, and the size where that isn't the number of bytes."""
     damaged = "damaged" in words
     claims = [int(word[7:]) for word in words if word.startswith("claims=")]
     for word in words:
         name, _, value = word.partition("=")
-        if name == "claims":
+        if name in ("claims", "load", "symbol"):
             continue
         if name == "code":
             address, size = (int(each, 0) for each in value.split(","))
@@ -55,6 +85,13 @@ def parts_of(words, order, wide):
             yield ".gnu_debuglink", link(order, value), 1, 0, 0, None
         elif name == "id":
             yield ".note.gnu.build-id", note(order, value), 7, 2, 0, None
+        elif name == "alt":
+            text, _, digits = value.partition(",")
+            yield ".gnu_debugaltlink", os.fsencode(text) + b"\0" + bytes.fromhex(digits), 1, 0, 0, None
+        elif name == "sup":
+            text, _, digits = value.partition(",")
+            head = struct.pack(order + "HB", 5, text == "") + os.fsencode(text) + b"\0"
+            yield ".debug_sup", head + leb(len(digits) // 2) + bytes.fromhex(digits), 1, 0, 0, None
         elif name in ("dwo", "module"):
             yield {"dwo": ".debug_info.dwo", "module": ".modinfo"}[name], b"some", 1, 0, 0, None
         elif name.startswith("z:"):
@@ -73,7 +110,8 @@ def parts_of(words, order, wide):
 
 def elf(words, wide, big):
     order = ">" if big else "<"
-    parts = list(parts_of(words, order, wide))
+    parts = [*parts_of(words, order, wide), *symbols(words, order, wide)]
+    loads = list(segments(words, order, wide))
     names = b"\0" + b"".join(os.fsencode(part[0]) + b"\0" for part in parts) + b".shstrtab\0"
     parts.append((".shstrtab", names, 3, 0, 0, None))
     start = 64 if wide else 52
@@ -86,9 +124,11 @@ def elf(words, wide, big):
         body += content
     kind = 1 if "object" in words or "dwo" in words or "module" in words else 4 if "core" in words else 3
     machine = {(True, False): 62, (True, True): 21, (False, False): 3, (False, True): 20}[wide, big]
-    numbers = (kind, machine, 1, 0, 0, start + len(body), 0, start, 0, 0, len(headers[0]), len(headers), len(headers) - 1)
+    sections = start + len(body)
+    first = sections + len(headers[0]) * len(headers) if loads else 0
+    numbers = (kind, machine, 1, 0, first, sections, 0, start, 56 if wide else 32, len(loads), len(headers[0]), len(headers), len(headers) - 1)
     identity = b"\x7fELF" + bytes([2 if wide else 1, 2 if big else 1, 1]) + b"\0" * 9
-    return identity + struct.pack(order + ("HHIQQQIHHHHHH" if wide else "HHIIIIIHHHHHH"), *numbers) + body + b"".join(headers)
+    return identity + struct.pack(order + ("HHIQQQIHHHHHH" if wide else "HHIIIIIHHHHHH"), *numbers) + body + b"".join(headers + loads)
 
 
 def pe(words, wide):
@@ -173,5 +213,6 @@ FORMATS = {
     "wasm": wasm,
 }
 
-with open(sys.argv[2], "wb") as made:
-    made.write(FORMATS[sys.argv[1]](sys.argv[3:]))
+if __name__ == "__main__":
+    with open(sys.argv[2], "wb") as made:
+        made.write(FORMATS[sys.argv[1]](sys.argv[3:]))

@@ -34,6 +34,18 @@ expect 'a prefix' 0 "$(installed "$prefix")"$'\n' '' ./install "$prefix"
 for words in '' "''" --libary '-- x' 'x y' --library --uninstall '--uninstall --library x'; do
   expect "no prefix: $words" 2 '' $'usage: ./install [--library] PREFIX\n       ./install --uninstall PREFIX\n' unwritten bash -c "./install $words"
 done
+# Where it would be written onto what is read for it.
+ln -s "$top" "$work/bin"
+for words in install:. library:. install:"$top/share/.." install:"$work" library:"$work"; do
+  script=${words%%:*}
+  place=${words#*:}
+  [ "$place" != "$work" ] || place=$work/bin
+  expect "$script onto the sources: $place" 2 '' \
+    "$script: $place has the sources, which would be overwritten: give another prefix than ${words#*:}"$'\n' unwritten "./$script" "${words#*:}"
+done
+expect 'pages onto themselves' 2 '' $'share/pages: . has the pages that are read: give another folder\n' unwritten share/pages . README.md
+expect 'a program onto a source' 2 '' $'build: crates.txt is one of the sources that are read: give another file\n' \
+  unwritten share/build . linetab crates.txt
 expect 'the program' 0 $'yes\n' '' "$linetab" check "${hello[@]}"
 python3 tests/images.py elf64 "$work/app" .debug_line=examples/hello.debug_line .debug_line_str=examples/hello.debug_line_str
 expect 'linetab-object beside it' 0 $'yes\n' '' "$prefix/bin/linetab-object" check "$work/app" examples/hello.csv
@@ -127,6 +139,13 @@ manual() {
       "$(awk -v word="$word" '/^\.S/ { on = $1 == ".SS" && $2 == word } on && $1 == ".B"' "$page" | sed 's/\\-/-/g' |
         grep -oE -- '--[a-z0-9-]+' | sort)"
   done
+  same 'the words of the man page of linetab-object' "$(object_words | grep -vx help)" \
+    "$(sed -n 's/^\.SS //p' "$prefix/share/man/man1/linetab-object.1" | sort)"
+  same 'the options of check in it' "$(options check linetab-object)" \
+    "$(awk '/^\.S/ { on = $1 == ".SS" && $2 == "check" } on && $1 == ".B"' "$prefix/share/man/man1/linetab-object.1" | sed 's/\\-/-/g' |
+      grep -oE -- '--[a-z0-9-]+' | sort)"
+  expect 'which has those of linetab-object alone' 0 $'--any-build\n--json\n--max\n' '' \
+    grep -xE -- '--(any-build|json|max)' <(options check linetab-object)
   same 'the exit statuses are those of README.md' "$(grep '^The exit status is' README.md | tr -d '`')" \
     "$(sed -n 's/\\-/-/g; /^The exit status is/p' "$page")"
   here 'the man page, as mandoc reads it' mandoc || return
@@ -157,10 +176,10 @@ in_bash() {
 
 # Makers and options of linetab-table's help.
 makers() {
-  "$prefix/bin/linetab-table" --help | sed -nE '/^Makers:/,/^$/s/^  ([a-z-]+) .*/\1/p' | sort
+  "$prefix/bin/linetab-table" --help | sed -nE '/^Makers:/,/^$/s/^  ([a-z0-9-]+) .*/\1/p' | sort
 }
 made_options() {
-  "$prefix/bin/linetab-table" --help | sed -nE 's/^ +(--[a-z-]+) .*/\1/p' | sort
+  "$prefix/bin/linetab-table" --help | sed -nE 's/^ +(-[a-zA-Z], )?(--[a-z-]+) .*/\2/p' | sort
 }
 made_in_bash() {
   made() {
@@ -171,7 +190,10 @@ made_in_bash() {
   same 'options of makers in bash' "$(made_options)" "$(made linetab-table gsym --)"
   same 'a command in bash' bash "$(made linetab-table points bash | grep -x bash | head -n 1)"
   same 'options of makers in the man page' "$(made_options)" \
-    "$(sed -n 's/\\-/-/g; s/^\.B \(--[a-z-]*\).*/\1/p' "$prefix/share/man/man1/linetab-table.1" | sort)"
+    "$(sed -nE 's/\\-/-/g; s/^\.B (-[a-zA-Z], )?(--[a-z-]*).*/\2/p' "$prefix/share/man/man1/linetab-table.1" | sort)"
+  same 'makers in the man page' "$(makers)" \
+    "$(sed -nE '/^\.SH MAKERS/,/^\.SH OPTIONS/s/^\.B ([a-z0-9\\-]+).*/\1/p' "$prefix/share/man/man1/linetab-table.1" | tr -d '\\' | sort)"
+  expect 'makers with a version' 0 $'gsym\ngsym-17\n' '' grep ^gsym <(makers)
 }
 
 in_fish() {

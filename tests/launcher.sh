@@ -71,8 +71,8 @@ plainly() {
   sed -E '/^linetab: proved /{/\(([0-9]+) of \1\)/!d; s/lnt_[a-z_]+/NAME/}; s/[0-9]+ s$/N s/; s|'"$work"'|WORK|g' "$work/said" >&2
   return $status
 }
-# The crates below the program: all but those of an example, of tests, of the library and its own.
-all=$(cd crates && printf '%s\n' */ | grep -cvE '^(lnt_(example|ffi|tests)|linetab)/')
+# The crates below the program: all but those of callers, of tests, of the library and its own.
+all=$(cd crates && printf '%s\n' */ | grep -cvE '^(lnt_(example|ffi|surface|tests)|linetab)/')
 section=$top/examples/hello.debug_line
 proving=$'linetab: proving and building the program, which takes some minutes the first time
 linetab: meanwhile `rt try -- WORD ..` in WORK/tree/crates/linetab answers in a minute, interpreted and unproved, for files by their whole paths\n'
@@ -175,7 +175,7 @@ change() { # CRATE
 }
 ln -s "$(python3 -c 'import sys; print(sys.executable)')" "$work/without/python3"
 cp linetab-object "$tree"
-cp -r share/object "$tree/share"
+cp -r share/scripts "$tree/share"
 python3 tests/images.py elf64 "$work/app" .debug_line=examples/hello.debug_line .debug_line_str=examples/hello.debug_line_str
 change lnt_wire
 # What is told meanwhile, once a second here, of the crates that take long.

@@ -8,8 +8,9 @@ three=$'low,high,path,line\n'
 four=$'low,high,path,line,column\n'
 
 # A folder with the script and a linetab-object that tells these paths.
-mkdir "$work/bin" "$work/tools"
+mkdir -p "$work/bin" "$work/tools" "$work/share/linetab"
 cp linetab-table "$work/bin"
+cp -r share/scripts "$work/share/linetab"
 table() { # WORD..
   "$work/bin/linetab-table" "$@"
 }
@@ -27,7 +28,7 @@ gsym() {
     expect "a GSYM file, $order-endian" 0 "$wanted" '' table gsym "$work/$order"
   done
   expect 'the same by its first rows' 0 "${wanted/0x1004,0x1008,\/src\/a.c,7/0x1004,0x1005,/src/a.c,6$'\n'0x1005,0x1008,/src/a.c,7}" '' \
-    table gsym --first-row "$work/little"
+    table gsym-17 "$work/little"
   for ((cut = 1; cut < $(stat -c %s "$work/little"); cut += 23)); do
     head -c $cut "$work/little" >"$work/cut"
     table gsym "$work/cut" >"$work/out" 2>"$work/err"
@@ -171,7 +172,6 @@ answerer() { # NAME ANSWERS
 }
 points() {
   cp linetab-object "$work/bin"
-  mkdir -p "$work/share/linetab" && cp -r share/object "$work/share/linetab"
   python3 tests/images.py elf64 "$work/app" .debug_line=examples/hello.debug_line code=0x1000,0x8
   answerer addr2line 'a < "1002" { print "??:0" } a >= "1002" && a < "1005" { print "/w/a:b.c:7 (discriminator 3)" } a == "1005" { print "/w/a.c:?" } a > "1005" { print "crtstuff.c:?" }'
   expect 'points by addr2line' 0 "$three"$'0x1002,0x1005,/w/a:b.c,7\n0x1005,0x1006,/w/a.c,0\n' '' \
@@ -187,8 +187,8 @@ points() {
   refuses_points 'one that ends' bad-addr2line 'no such day'
   expect 'one that is not there' 3 '' "$says $work/app: $work/none-addr2line can't be run: No such file or directory"$'\n' \
     table points "$work/none-addr2line" "$work/app"
-  expect 'no program' 3 '' "$says examples/hello.csv: it is none of ELF, PE, Mach-O and WebAssembly; a raw section is for linetab itself"$'\n' \
-    table points "$work/tools/addr2line" examples/hello.csv
+  expect 'no program' 3 '' "$says tests/makers.sh: it is a script: take the program that it runs"$'\n' \
+    table points "$work/tools/addr2line" tests/makers.sh
   python3 tests/images.py elf64 "$work/app" .debug_line=examples/hello.debug_line code=0x1000,0x7000000000000000
   expect 'more code than a file has' 3 '' "$says $work/app: it has no code, or more than a file of its size has"$'\n' \
     table points "$work/tools/addr2line" "$work/app"
@@ -215,20 +215,40 @@ whole_paths() {
 }
 
 words() {
-  local makers='gsym, breakpad, llvm-dwarfdump, readelf, points'
+  local makers='gsym, gsym-17, breakpad, llvm-dwarfdump, readelf, points' maker text
   expect 'no words' 2 '' "$says one of $makers is wanted first: linetab-table MAKER FILE [OPTIONS..]"$'\n' table
   expect 'another maker' 2 '' "$says one of $makers is wanted first: linetab-table MAKER FILE [OPTIONS..]"$'\n' table gdb file
   expect 'no file' 2 '' "$says linetab-table gsym FILE: no more and no less is wanted"$'\n' table gsym
   expect 'a word too many' 2 '' "$says linetab-table readelf FILE: no more and no less is wanted"$'\n' table readelf a b
-  expect 'an option of another maker' 2 '' "$says --first-row is for gsym"$'\n' table readelf a --first-row
+  expect 'an option of another maker' 2 '' "$says --base is for breakpad"$'\n' table readelf a --base 0x0
   expect 'no address' 2 '' "$says argument --dead: an address is 0x and 1 to 16 hexadecimal digits, and 12 isn't"$'\n' \
     table readelf a --dead 12
   expect 'another command' 2 '' "$says gdb: COMMAND is an addr2line, eu-addr2line or llvm-symbolizer, and named so"$'\n' table points gdb app
   expect 'a file that is not there' 3 '' "$says none: cannot read it: No such file or directory"$'\n' table gsym none
   expect 'a folder' 3 '' "$says tests: cannot read it: Is a directory"$'\n' table breakpad tests
   expect 'help' 0 $'usage: linetab-table MAKER FILE [OPTIONS..]\n' '' bash -c 'table --help | grep usage'
+  for maker in $(tr -d , <<<"$makers"); do
+    text="usage: linetab-table $maker FILE [OPTIONS..]"
+    [ $maker != points ] || text='usage: linetab-table points COMMAND FILE [OPTIONS..]'
+    expect "the help of $maker" 0 "$text"$'\n' '' bash -c 'table "$0" --help | grep usage' $maker
+    expect "the help of $maker, behind a file" 0 "$(table $maker --help)"$'\n' '' table $maker file -h
+    expect "it begins with $maker" 0 "$maker"$'\n' '' bash -c 'table "$0" --help | sed -nE "1s/^([a-z0-9-]+) .*/\1/p"' $maker
+  done
+  expect 'the options of breakpad' 0 $'--base\n--help\n--paths-of\n--quiet\n' '' options_of breakpad
+  expect 'the options of readelf' 0 $'--dead\n--help\n--paths-of\n--quiet\n--skip-copies\n' '' options_of readelf
+  expect 'no version behind a maker' 2 '' "$says unrecognized arguments: --version"$'\n' table gsym file --version
+  ln -s "$PWD/crates/linetab/out/linetab" "$work/bin/linetab"
+  for text in --version -V; do
+    expect "the version, by $text" 0 "$("$work/bin/linetab" --version | sed 's/^linetab /linetab-table /')"$'\n' '' table $text
+  done
+  rm "$work/bin/linetab"
+  expect 'a version without the program' 3 '' "$says the program linetab can't be run: No such file or directory"$'\n' table --version
   expect 'a full device' 3 '' "$says cannot write: No space left on device"$'\n' bash -c 'table gsym "$work/little" >/dev/full'
   expect 'a closed pipe' 3 '' '' bash -c 'mkfifo "$work/pipe"; exec 3<>"$work/pipe" 4>"$work/pipe" 3<&-; table gsym "$work/little" >&4'
+}
+
+options_of() { # MAKER
+  table "$1" --help | sed -n '/^Options:/,$p' | grep -oE -- '^ +(-[a-z], )?--[a-z-]+' | grep -oE -- '--.*' | LC_ALL=C sort
 }
 
 # ---- programs of the compilers that are here, and the tools that are here
@@ -261,12 +281,12 @@ END
   done
 }
 of_program() { # PROGRAM
-  local tool name=${1##*/} first
+  local tool name=${1##*/} maker
   for tool in $(compgen -c llvm-gsymutil | grep -xE 'llvm-gsymutil(-[0-9]+)?' | sort -u); do
     "$tool" --convert "$1" --out-file "$1.gsym" >/dev/null 2>&1 || { skip "$tool makes no GSYM file of $name"; continue; }
-    first=
-    [ "$("$tool" --version | sed -nE 's/.*LLVM version ([0-9]+).*/\1/p')" -gt 17 ] || first=--first-row
-    ./linetab-table gsym $first "$1.gsym" >"$1.csv"
+    maker=gsym
+    [ "$("$tool" --version | sed -nE 's/.*LLVM version ([0-9]+).*/\1/p')" -gt 17 ] || maker=gsym-17
+    ./linetab-table $maker "$1.gsym" >"$1.csv"
     expect "the answers of $tool of $name" 0 '' '' python3 tests/peers/gsym.py "$tool" "$1.gsym" "$1.csv" 1000
   done
   is_right "$name by llvm-dwarfdump" llvm-dwarfdump "$1" 'llvm-dwarfdump --debug-line "$0" | ./linetab-table llvm-dwarfdump - --skip-copies'

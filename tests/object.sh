@@ -15,7 +15,7 @@ image() { # FORMAT NAME WORD..: a file of that name, in the folder of the test
 # A folder with the script, its modules and the program alone, as they are installed: the launcher would take as long as the rest.
 mkdir -p "$work/bin" "$work/share/linetab"
 cp linetab-object "$work/bin"
-cp -r share/object "$work/share/linetab"
+cp -r share/scripts "$work/share/linetab"
 ln -s "$PWD/crates/linetab/out/linetab" "$work/bin/linetab"
 linetab=$work/bin/linetab
 object() { # WORD..
@@ -103,7 +103,7 @@ usage() {
   expect 'an option that is joined to its value' 0 "$(object lookup "$work/elf64" 0x1137)"$'\n' '' object lookup --op=0 "$work/elf64" 0x1137
   cp "$work/elf64" "$work/-v"
   expect 'a name that begins as options do' 0 $'yes\n' '' bash -c 'cd "$0" && object verify -- -v' "$work"
-  expect 'its modules are missing' 1 '' "$says its modules have to lie in $work/off/share/linetab/object, and aren't there"$'\n' \
+  expect 'its modules are missing' 1 '' "$says its modules have to lie in $work/off/share/linetab/scripts, and aren't there"$'\n' \
     bash -c 'mkdir -p "$0/off/bin" && cp linetab-object "$0/off/bin" && "$0/off/bin/linetab-object" verify x' "$work"
 }
 
@@ -114,7 +114,7 @@ standard_input() {
   expect 'a pipe with a Mach-O file' 0 "$table" '' bash -c 'cat "$0" | object table -' "$work/macho"
   expect 'a check of it' 0 $'yes\n' '' object check - examples/hello.csv <"$work/pe"
   expect 'standard input that is no program' 3 '' "$says -: it is a script: take the program that it runs"$'\n' object verify - <linetab
-  expect 'an empty standard input' 3 '' "$says -: it is none of ELF, PE, Mach-O and WebAssembly; a raw section is for linetab itself"$'\n' \
+  expect 'an empty standard input' 3 '' "$says -: it is empty"$'\n' \
     object verify - </dev/null
   expect 'a closed one' 3 '' "$says -: standard input can't be read: Is a directory"$'\n' bash -c 'object verify - <&-'
   expect 'standard input twice' 3 '' "$says -: standard input is read once"$'\n' object check - - <"$work/elf64"
@@ -154,6 +154,80 @@ outputs() {
   expect 'nothing else' 0 $'app\napp.csv\nlink\nunits\n' '' ls "$work/o"
 }
 
+# What is read isn't overwritten, whatever it is called.
+inputs() {
+  local folder=$work/i
+  mkdir "$folder" && cp -r "$work/o/app" "$work/o/app.csv" "$folder"
+  cp examples/hello.debug_line_str "$folder/strings"
+  echo 0x1137 >"$folder/addresses"
+  cp "$folder/app" "$folder/debug"
+  image elf64 i/stripped code=0x1000,0x1000 link=debug,"$work/i/app"
+  ln -s app "$folder/link" && ln "$folder/app" "$folder/other"
+  cp -r "$folder" "$work/as_it_was"
+  onto() { # NAME OUTPUT WORD..
+    expect "$1" 2 '' "$says -o would write onto $2, which is read: give another file"$'\n' object "${@:3}" -o "$2"
+  }
+  cd "$folder" || exit 1
+  onto 'an output onto the program' app table app
+  onto 'by another path' "$folder/app" table ./app
+  onto 'by a link' link table app
+  onto 'by a link that is read' app table link
+  onto 'by another name' other table app
+  onto 'onto the table' app.csv check app app.csv
+  onto 'onto the strings' strings verify app --line-str strings
+  onto 'onto the strings, joined' strings verify app --line-str=strings
+  onto 'onto addresses' addresses lookup app --addresses addresses
+  onto 'onto standard input' app table - <app
+  onto 'onto standard input, by its name' /dev/stdin table - <app
+  onto 'onto a table from standard input' app.csv check app - <app.csv
+  onto 'onto a table from standard input, by its name' app.csv check app /dev/stdin <app.csv
+  onto 'onto a text' addresses symbolize app <addresses
+  expect 'onto the debug file' 2 '' "$says note: the debug information of stripped is in $folder/debug"$'\n'\
+"$says -o would write onto debug, which is read: give another file"$'\n' object table stripped -o debug
+  cd "$top" || exit 1
+  expect 'all of which is as it was' 0 '' '' diff -r "$folder" "$work/as_it_was"
+  expect 'an output beside them' 0 '' '' object table "$folder/app" -o "$folder/new"
+  expect 'an output in the place of another file' 0 '' '' object verify "$folder/app" -o "$folder/new"
+  expect 'a device twice' 0 '' '' object lookup "$folder/app" --addresses /dev/null -o /dev/null
+  # A file whose sum is listed.
+  printf 'int x;\n' >"$folder/a.c"
+  python3 - "$folder/a.c" "$work/sums" <<'END'
+import hashlib, struct, sys
+path, out = sys.argv[1:]
+with open(path, "rb") as file:
+    listed = hashlib.md5(file.read()).digest()
+tables = b"\1\1\x08\1/\0" + b"\3\1\x08\2\x0b\5\x1e\1" + path.encode()[1:] + b"\0\0" + listed
+numbers = bytes.fromhex("010101fb0e0d000101010100000001000001") + tables
+unit = struct.pack("<HBBI", 5, 8, 0, len(numbers)) + numbers
+with open(out, "wb") as file:
+    file.write(struct.pack("<I", len(unit)) + unit)
+END
+  image elf64 sums.app .debug_line="$work/sums"
+  expect 'a sum' 0 "unit 0 file 0 same \"$folder/a.c\""$'\n' '' object md5 "$work/sums.app"
+  expect 'onto a file that was summed' 2 '' "$says -o would write onto $folder/a.c, which is read: give another file"$'\n' \
+    object md5 "$work/sums.app" -o "$folder/a.c"
+  expect 'which stays' 0 $'int x;\n' '' cat "$folder/a.c"
+}
+
+# Words and options that take no folders, or aren't for this word.
+elsewhere() {
+  local word used
+  while IFS='|' read -r word used; do
+    expect "folders of $word" 2 '' "error: $used, and no folders, which -r is for"$'\n\n'"$(object "${word%% *}" --help |
+      grep '^Usage: ')"$'\n\nFor more information, try \'--help\'.\n' object $word
+  done <<END
+check -r|check takes one FILE and SYMBOLS
+check $work/elf64 examples/hello.csv --recursive|check takes one FILE and SYMBOLS
+lookup -r $work/elf64 0x0|lookup takes one FILE and ADDRESS..
+convert -r|convert takes one FILE
+symbolize $work/elf64 -r|symbolize takes one FILE
+END
+  for word in units dump lookup files table convert md5 upgrade symbolize; do
+    expect "JSON of $word" 2 $'1\n' '' bash -c 'object "$1" "$0" --json 2>"$0.said" </dev/null; status=$?
+      grep -c "^error: $1 takes .*, and no --json, which is for check and verify$" "$0.said"; exit $status' "$work/elf64" "$word"
+  done
+}
+
 # Several files, and all in folders.
 several() {
   local all=$work/tree
@@ -166,8 +240,10 @@ several() {
   cp examples/hello.debug_line "$all/one/text"
   ln -s a "$all/link" && mkfifo "$all/pipe"
   expect 'several files' 0 "$all/a: yes"$'\n'"$all/one/b: yes"$'\n2 files: 2 yes, 0 no, 0 not judged\n' '' object verify "$all/a" "$all/one/b"
-  expect 'their units' 0 "$all/a:"$'\n0x0 32 156\n\n'"$all/one/b:"$'\n0x0 32 156\n\n2 files: 2 done, 0 no, 0 not judged\n' '' \
+  expect 'their units' 0 "$all/a: 0x0 32 156"$'\n'"$all/one/b: 0x0 32 156"$'\n2 files: 2 done, 0 no, 0 not judged\n' '' \
     object units "$all/a" "$all/one/b"
+  expect 'each line of a longer answer' 3 "$(sed "s,^,$all/a: ," examples/hello.csv)"$'\n2 files: 1 done, 0 no, 1 not judged\n' \
+    "$says $all/none: cannot read it: No such file or directory"$'\n' object table "$all/a" "$all/none"
   expect 'one that is not there' 3 "$all/a: yes"$'\n2 files: 1 yes, 0 no, 1 not judged\n' \
     "$says $all/none: cannot read it: No such file or directory"$'\n' object verify "$all/none" "$all/a"
   expect 'one that is named, and has nothing' 3 "$all/a: yes"$'\n2 files: 1 yes, 0 no, 1 not judged\n' \
@@ -203,14 +279,14 @@ kinds() {
   printf 'PERFILE2' >"$work/no" && refuses 'a recording of perf' no "$perf"
   printf 'MDMP\x93\xa7' >"$work/no" && refuses 'a minidump' no 'it is a minidump, which has no line numbers: minidump_stackwalk FILE '\
 'lists the programs in it; take one of them, or its debug information'
-  printf 'MODULE Linux x86_64 0 a\n' >"$work/no" && refuses 'a file of Breakpad' no 'it is a symbol file of Breakpad, which is a table: '\
-'linetab-table breakpad FILE | linetab-object check PROGRAM - compares it with the program that it was made of'
+  printf 'MODULE Linux x86_64 0 a\n' >"$work/no" && refuses 'a file of Breakpad' no 'it is a symbol file of Breakpad: '\
+'linetab-object check PROGRAM FILE compares it with the program that it was made of'
   printf 'PK\x03\x04' >"$work/no" && refuses 'a zip archive' no \
     'it is a zip archive, as APK, JAR and wheel files are: unpack it, and take a program in it'
   printf '!<arch>\ndebian-binary   ' >"$work/no" && refuses 'a package of Debian' no 'it is a package of Debian: dpkg-deb -x FILE FOLDER unpacks it'
   printf '\xed\xab\xee\xdb' >"$work/no" && refuses 'an RPM package' no 'it is an RPM package: rpm2cpio FILE | cpio -idm unpacks it'
-  python3 tests/gsym_file.py little "$work/no" && refuses 'a table of llvm-gsymutil' no 'it is a table of llvm-gsymutil: linetab-table gsym '\
-'FILE | linetab-object check PROGRAM - compares it with the program that it was made of'
+  python3 tests/gsym_file.py little "$work/no" && refuses 'a GSYM file' no 'it is a GSYM file: linetab-object check '\
+'PROGRAM FILE compares it with the program that it was made of'
   image elf64 no "${hello[@]}" object && printf '\xf7' | dd of="$work/no" bs=1 seek=18 conv=notrunc status=none && refuses 'a BPF object' no \
     'it is a BPF object, which is linked when it is loaded: bpftool prog dump xlated id ID linum prints its lines then'
   # A PE file without a table of symbols.
@@ -287,8 +363,9 @@ sys.stdout.buffer.write(section.replace(start + bytes(8), start + b"\xff" * 8))'
   image elf64 dead .debug_line="$work/none"
   local rows=$'low,low_op,high,high_op,unit,file,line,column,is_stmt\n0x1000,0,0x1004,0,0,1,3,0,1\n0x1004,0,0x1006,0,0,1,4,0,1\n'
   expect_notes 'the bytes of address 0 elsewhere' 0 "$rows" '' object table "$work/dead"
+  echo names >"$work/names"
   expect_notes 'the bytes of address 0 elsewhere, and a difference' 1 "no 36 table header"$'\n' \
-    "$("$linetab" check "$work/none" /dev/null 2>&1 >"$work/out")"$'\n' object check "$work/dead" /dev/null
+    "$says note: $work/names: its header is \"names\" in place of low,high,path,line"$'\n' object check "$work/dead" "$work/names"
   cat "$work/none" "$work/ones" >"$work/both"
   image elf64 dead .debug_line="$work/both" "${dead[1]}"
   expect_notes 'these bytes, and sequences at the highest address' 0 \
@@ -313,7 +390,7 @@ once() {
   # A unit of version 4 after one with a discarded sequence, which names a file that isn't there.
   (bytes "45000000 $start $header 0009020000000000000000 0405 144b0202 000101") >"$work/named"
   (bytes "43000000 $start $header 0009020000000000000000 144b0202 000101") >"$work/unnamed"
-  local version="$says note: 1 of its 2 units, of src/a.c, is of version 4; linetab reads DWARF 5 alone: compile with -gdwarf-5; with --older it is upgraded first"$'\n'
+  local version="$says note: 1 of its 2 units, of src/a.c, is of version 4; linetab reads DWARF 5 alone: with --older it is upgraded first; to build it anew: compile with -gdwarf-5"$'\n'
   cat "$work/named" "$work/old4" >"$work/mixed" && image elf64 dead .debug_line="$work/mixed"
   expect_notes 'discarded code, without which another fault is told' 1 $'no 25 malformed at 0x4d: version 4\n' "$version" \
     object verify "$work/dead"
@@ -327,7 +404,8 @@ once() {
 }
 
 versions() {
-  local hint='linetab reads DWARF 5 alone: compile with' upgraded='; with --older it is upgraded first'
+  local hint='linetab reads DWARF 5 alone: without --no-older it is upgraded first; to build it anew:'
+  local assembled="compile with -gdwarf-5, by gcc with -Wa,--gdwarf-5 too, as it is the assembler's; as itself takes --gdwarf-5"
   python3 - "$work/old" <<'END'
 import struct, sys
 name = sys.argv[1]
@@ -346,38 +424,36 @@ END
     for version in 2 3; do
       image elf64$order unit .debug_line="$work/old$version${order#-}"
       expect "version $version$order" 1 "no 25 malformed at 0x4: version $version"$'\n' \
-        "$says note: its unit, of src/a.c, is of version $version; $hint -gdwarf-5, by gcc with -Wa,--gdwarf-5 too, as it is the assembler's; as itself takes --gdwarf-5$upgraded"$'\n' \
-          object table "$work/unit"
+        "$says note: its unit, of src/a.c, is of version $version; $hint $assembled"$'\n' object table --no-older "$work/unit"
     done
     image elf64$order unit .debug_line="$work/old4${order#-}"
     expect "version 4$order" 1 $'no 25 malformed at 0x4: version 4\n' \
-      "$says note: its unit, of src/a.c, is of version 4; $hint -gdwarf-5$upgraded"$'\n' object table "$work/unit"
+      "$says note: its unit, of src/a.c, is of version 4; $hint compile with -gdwarf-5"$'\n' object table --no-older "$work/unit"
   done
   cat "$work/old2" examples/hello.debug_line "$work/old4" "$work/old4" >"$work/mixed"
   image elf64 unit .debug_line="$work/mixed" "${hello[1]}"
   expect 'versions 2 and 4' 1 $'no 25 malformed at 0x4: version 2\n' \
-    "$says note: 3 of its 4 units, the first of src/a.c, are of version 2 and 4; $hint -gdwarf-5, by gcc with -Wa,--gdwarf-5 too, as it is the assembler's; as itself takes --gdwarf-5${upgraded/it is/they are}"$'\n' \
-    object table "$work/unit"
+    "$says note: 3 of its 4 units, the first of src/a.c, are of version 2 and 4; ${hint/it is/they are} $assembled"$'\n' object table --no-older "$work/unit"
   local said advised
   while IFS='|' read -r said advised; do
     echo "$said" >"$work/said"
     image elf64 unit .debug_line="$work/old3" .debug_str="$work/said"
     expect "version 3, by $said" 1 $'no 25 malformed at 0x4: version 3\n' \
-      "$says note: its unit, of src/a.c, is of version 3; ${hint% compile with} $advised$upgraded"$'\n' object table "$work/unit"
+      "$says note: its unit, of src/a.c, is of version 3; $hint $advised"$'\n' object table --no-older "$work/unit"
   done <<'END'
 NASM 2.16.01|nasm writes none later than 3; GNU as takes --gdwarf-5
 yasm 1.3.0|yasm writes none later than 2; GNU as takes --gdwarf-5
 The Glorious Glasgow Haskell Compilation System 9.0.2|ghc takes -opta-Wa,--gdwarf-5
-camlStd_exit__entry|ocamlopt has no option for it
+camlStd_exit__entry|ocamlopt has no option for version 5
 Swift version 6.0.3|swiftc takes -dwarf-version=5
+Go cmd/compile go1.19.8|Go writes version 5 from release 1.25 on
 GNU AS 2.40|compile with -gdwarf-5, by gcc with -Wa,--gdwarf-5 too, as it is the assembler's; as itself takes --gdwarf-5
 END
   cat examples/hello.debug_line "$work/old4" >"$work/mixed"
   echo 'clang LLVM (rustc version 1.95.0)' >"$work/said"
   image elf64 unit .debug_line="$work/mixed" "${hello[1]}" z:.debug_str="$work/said"
   expect 'version 4 after version 5, by rustc' 1 $'no 25 malformed at 0xa4: version 4\n' \
-    "$says note: 1 of its 2 units, of src/a.c, is of version 4; ${hint% compile with} $rust$upgraded"$'\n' \
-    object table "$work/unit"
+    "$says note: 1 of its 2 units, of src/a.c, is of version 4; $hint $rust"$'\n' object table --no-older "$work/unit"
 }
 
 # Sequences that hold the same positions are copies, which are left out; others aren't.
@@ -475,7 +551,7 @@ refusals() {
   (bytes cafebabe00000034) >"$work/no" && refuses 'a class of Java' no 'it is a class of Java, which has no DWARF'
   cp examples/hello.debug_line "$work/no" && refuses 'a raw section' no \
     'it is none of ELF, PE, Mach-O and WebAssembly; a raw section is for linetab itself'
-  : >"$work/no" && refuses 'an empty file' no 'it is none of ELF, PE, Mach-O and WebAssembly; a raw section is for linetab itself'
+  : >"$work/no" && refuses 'an empty file' no 'it is empty'
   printf '!<arch>\n' >"$work/no" && refuses 'an archive' no 'it is an archive of relocatable objects: link them'
   cp linetab "$work/no" && refuses 'a script' no 'it is a script: take the program that it runs'
   gzip -c linetab >"$work/no" && refuses 'a compressed file' no 'it is compressed by gzip: unpack it first'
@@ -621,8 +697,8 @@ END
   here 'gcc, version 4' gcc || return
   gcc -gdwarf-4 -o "$work/made" "$work/main.c" 2>/dev/null || { skip "gcc can't make it here: gcc, version 4"; return; }
   expect 'gcc, version 4' 1 $'no 25 malformed at 0x4: version 4\n' \
-    "$says note: its unit, of $work/main.c, is of version 4; linetab reads DWARF 5 alone: compile with -gdwarf-5; with --older it is upgraded first"$'\n' \
-    object table "$work/made"
+    "$says note: its unit, of $work/main.c, is of version 4; linetab reads DWARF 5 alone: with --older it is upgraded first; to build it anew: compile with -gdwarf-5"$'\n' \
+    object verify "$work/made"
   gcc -gdwarf-5 -c -o "$work/made" "$work/main.c"
   refuses 'gcc, not linked' made "it is a relocatable object, whose relocations aren't applied and whose addresses all begin at 0: link it"
   gcc -o "$work/made" "$work/main.c"
@@ -648,6 +724,8 @@ words
 usage
 standard_input
 outputs
+inputs
+elsewhere
 several
 kinds
 packed

@@ -1,17 +1,19 @@
 #!/usr/bin/env bash
-# linetab-object --older and upgrade: programs with units of versions 2 to 4, written here and by the compilers that are here. Their rows
-# are compared with those that llvm-dwarfdump tells of the program as it is.
+# linetab-object and units of versions 2 to 4, with --older, --no-older and upgrade: programs with such units, written here and by the
+# compilers that are here. Their rows are compared with those that llvm-dwarfdump tells of the program as it is.
 cd "$(dirname "$(readlink -f -- "$0")")/.." || exit 1
 . tests/check.bash
 says=linetab-object:
 note="$says note:"
 offsets='offsets of units are those of the upgraded section, which linetab-object upgrade prints'
 one="$note its unit of version 4 was upgraded to version 5: $offsets"$'\n'
+stays="$note no compilation directory is known of its unit, so relative paths stay relative, as src/a.c"$'\n'
+anew="compile with -gdwarf-5, by gcc with -Wa,--gdwarf-5 too, as it is the assembler's; as itself takes --gdwarf-5"
 
 # A folder with the script, its modules and the program alone, as they are installed.
 mkdir -p "$work/bin" "$work/share/linetab"
 cp linetab-object "$work/bin"
-cp -r share/object "$work/share/linetab"
+cp -r share/scripts "$work/share/linetab"
 ln -s "$PWD/crates/linetab/out/linetab" "$work/bin/linetab"
 linetab=$work/bin/linetab
 object() { # WORD..
@@ -35,7 +37,7 @@ lines_of() { # DIRECTORY..
 }
 # tells NAME FILE ERROR DIRECTORY..: the table, and what is on standard error.
 tells() {
-  expect "$1" 0 "$(lines_of "${@:4}")"$'\n' "$3" object table --lines --older "$work/$2"
+  expect "$1" 0 "$(lines_of "${@:4}")"$'\n' "$3" object table --lines "$work/$2"
 }
 
 formats() {
@@ -53,7 +55,7 @@ formats() {
   program elf64 app 4,/w 5,/w,size=4
   tells 'addresses of two sizes in .debug_info' app "$note 1 of its 2 units of version 4 was upgraded to version 5: $offsets"$'\n' /w/ /w/
   program wasm app 4,/w,alone
-  tells 'addresses of a file without .debug_info' app "$one" ''
+  tells 'addresses of a file without .debug_info' app "$one$stays" ''
   program elf64 app 5,/w 5,/x
   tells 'no older unit' app '' /w/ /x/
 }
@@ -64,10 +66,16 @@ directories() {
   local two="$note 2 compilation directories can't be read, and are left empty; the first is that of the unit at 0x13 of .debug_info:"
   local none="$note no compilation directory can be read, so each is left empty:"
   program elf64 app 4,/w,alone
-  tells 'no directory' app "$one" ''
+  tells 'no directory' app "$one$stays" ''
+  program elf64 app 4,/w 5,/w,alone 3,/w,alone 2,,
+  tells 'no directory of two' app "$note 3 of its 4 units of version 2 and 3 and 4 were upgraded to version 5: $offsets"$'\n'\
+"${stays/its unit/2 of its 4 units}" /w/ /w/ '' ''
+  program elf64 app 4,/w,alone,whole
+  expect 'no directory, and whole paths' 0 $'/x/a.c\n/y/src/b.c\n' "$one" \
+    bash -c 'object table --lines "$0" | sed 1d | cut -d , -f 3' "$work/app"
   program elf64 app '4,/a%2C "b"%0A'
   expect 'a directory with a comma, quotes and an end of line' 0 $'"/a, ""b""\n/b.c"\n' '' \
-    bash -c 'object files --older --quiet "$0" | tail -n 2 | sed "1s/^[^,]*,[^,]*,//; s/,$//"' "$work/app"
+    bash -c 'object files --quiet "$0" | tail -n 2 | sed "1s/^[^,]*,[^,]*,//; s/,$//"' "$work/app"
   program elf64 app 4,relative
   tells 'a relative one' app "$one" relative/
   program elf64 app 4,/w,broken
@@ -75,12 +83,122 @@ directories() {
   program elf64 app 4,/w 3,/x,broken 4,/w,broken
   tells 'two that are broken' app "$note its 3 units of version 3 and 4 were upgraded to version 5: $offsets"$'\n'"$two $past"$'\n' /w/ '' ''
   program elf64 app 4,/w cut
-  tells 'a cut .debug_info' app "$one$broken it is cut"$'\n' ''
+  tells 'a cut .debug_info' app "$one$broken it is cut"$'\n'"$stays" ''
   program elf64 app 4,/w packed
   tells 'a damaged .debug_info' app \
     "$one$none section .debug_info isn't what its compression header says: the file is damaged"$'\n' ''
   program elf64 app 4,/w twice
   tells 'two of them' app "$one$none it has two sections .debug_info, and nothing says which of them is meant"$'\n' ''
+}
+
+# The directories of a program that `dwz -m` made stand in another file, which is known by its build id.
+supplements() {
+  local form id=d5027fdd3273dfc6
+  local none="it is in the supplementary file of build id $id" below=/usr/lib/debug/.build-id/d5/027fdd3273dfc6.debug
+  local there="$note compilation directories are in the supplementary file"
+  local broken="$note 1 compilation directory can't be read, and is left empty: that of the unit at 0x0 of .debug_info:"
+  local two="$note 2 compilation directories can't be read, and are left empty; the first is that of the unit at 0x0 of .debug_info:"
+  printf '\0/dir\0' >"$work/texts"
+  mkdir -p "$work/a" "$work/b"
+  python3 tests/images.py elf64 "$work/a/common" .debug_str="$work/texts" id=$id
+  python3 tests/images.py elf64-big "$work/a/common5" z:.debug_str="$work/texts" sup=,$id
+  for form in alt sup; do
+    program elf64 a/app "4,1,$form" "$form=common,$id"
+    tells "a supplementary file, $form" a/app "$one$there $work/a/common"$'\n' /dir/
+    program elf32-big b/app "4,1,$form" "$form=../a/common5,$id"
+    tells "one of DWARF 5, $form" b/app "$one$there $work/a/common5"$'\n' /dir/
+    program elf64 b/app "4,1,$form" "$form=$work/a/common,$id"
+    tells "one by its whole path, $form" b/app "$one$there $work/a/common"$'\n' /dir/
+    program elf64 b/app "4,1,$form" "$form=other,$id"
+    tells "one that is not there, $form" b/app \
+      "$one$broken $none, which isn't in $work/b/other or /usr/lib/debug/.dwz/other or $below"$'\n' ''
+    program elf64 b/app "4,1,$form" "$form=../a/common,${id}00"
+    tells "one of another build, $form" b/app "$one$broken ${none}00, and $work/a/common is another one"$'\n' ''
+    program elf64 b/app "4,1,$form"
+    tells "one that is not named, $form" b/app "$one$broken it is in a supplementary file, and no section names that"$'\n' ''
+    program elf64 b/app "4,99,$form" "$form=../a/common,$id"
+    tells "a place past its end, $form" b/app \
+      "$one$there $work/a/common"$'\n'"$broken its directory lies past the end of a section"$'\n' ''
+  done
+  program elf64 a/app 4,1,alt alt=common,$id
+  ln -s ../a/app "$work/b/link"
+  tells 'by a link to the program' b/link "$one$there $work/a/common"$'\n' /dir/
+  expect 'of standard input' 0 "$(lines_of /dir/)"$'\n' "$one$there $work/a/common"$'\n' object table --lines - <"$work/a/app"
+  expect 'of a pipe' 0 "$(lines_of '')"$'\n' "$one$broken $none, which isn't in /usr/lib/debug/.dwz/common or $below"$'\n' \
+    bash -c 'cat "$0" | object table --lines -' "$work/a/app"
+  program elf64 a/app 4,1,alt 5,/v 3,5,alt alt=../x/.dwz/y/common,$id
+  tells 'below .dwz' a/app "$note 2 of its 3 units of version 3 and 4 were upgraded to version 5: $offsets"$'\n'\
+"$two $none, which isn't in $work/x/.dwz/y/common or /usr/lib/debug/.dwz/y/common or $below"$'\n' '' /v/ ''
+  mkfifo "$work/a/pipe"
+  program elf64 a/app 4,1,alt alt=pipe,$id
+  tells 'a pipe in its place' a/app "$one$broken $none, and $work/a/pipe is another one"$'\n' ''
+  python3 tests/images.py elf64 "$work/a/torn" z:.debug_str="$work/texts" damaged id=$id
+  program elf64 a/app 4,1,alt alt=torn,$id
+  tells 'one that is damaged' a/app \
+    "$one$broken section .debug_str isn't what its compression header says: the file is damaged"$'\n' ''
+  by_dwz
+}
+
+by_dwz() {
+  local option
+  here 'programs by dwz -m' dwz gcc || return
+  printf 'struct s { int a, b; long c; };\nint f(struct s *x) { return x->a; }\n' >"$work/a/f.c"
+  printf '#include "f.c"\nint main(int n, char **v) { struct s x = {n, 2, 3}; return f(&x); }\n' >"$work/a/main.c"
+  for option in -q -5; do
+    (cd "$work/a" && gcc -gdwarf-4 -o one main.c && cp one two && cp one three && dwz -q $option -m "shared$option" two three) \
+      >"$work/err" 2>&1 || { skip "dwz makes no such files: $option"; continue; }
+    object table --lines --quiet "$work/a/one" >"$work/one.csv"
+    expect "the same lines, by dwz -m $option" 0 $'yes\n' '' object check --quiet "$work/a/two" "$work/one.csv"
+    expect "a path, by dwz -m $option" 0 "$work/a/main.c"$'\n' '' \
+      bash -c 'object files --quiet "$0" | cut -d , -f 3 | grep main | uniq' "$work/a/two"
+    rm "$work/a/shared$option"
+    expect "without the other file, by dwz -m $option" 0 $'main.c\n' '' \
+      bash -c 'object files --quiet "$0" | cut -d , -f 3 | grep main | uniq' "$work/a/two"
+  done
+}
+
+# What the machine can't do is no fault of the file: nothing is answered, where it would be answered without directories.
+faults() {
+  local words
+  program elf64 app 4,/w,long squeezed
+  printf '%s\n' "$(lines_of /w/)" >"$work/right.csv"
+  expect 'with room for .debug_info' 0 "$(lines_of /w/)"$'\n' '' object table --quiet --lines "$work/app"
+  for words in 'table --lines app' 'check app right.csv' 'lookup app 0x1000' 'files app' 'md5 app' 'upgrade app' 'verify app --older'; do
+    expect "no room for .debug_info: $words" 3 "$says app: its sections can't be written to a temporary file: none"$'\n' '' \
+      bash -c 'cd "$work"; set -o pipefail; (ulimit -f 2; object "$@" 2>&1) | sed "s/: File too large$/: none/"' . $words
+  done
+  # A unit has fewer bytes than its directory, of which many units have the same.
+  program elf64 app $(printf '4,80,alt %.0s' {1..40}) "alt=common,00112233"
+  (head -c 80 /dev/zero; printf '/%01000d\0' {1..9}) >"$work/texts"
+  python3 tests/images.py elf64 "$work/common" .debug_str="$work/texts" id=00112233
+  expect 'with room for directories' 0 $'40\n' '' bash -c 'object files --quiet "$0" | grep -cE ",1,/0+1/src/a.c,"' "$work/app"
+  expect 'no room for directories' 3 "$says $work/app: its sections can't be written to a temporary file: none"$'\n' '' \
+    bash -c 'set -o pipefail; (ulimit -f 12; object files "$0" 2>&1) | sed "s/: File too large$/: none/"' "$work/app"
+  # A program beside it that is ended where it is asked for discarded code.
+  mkdir -p "$work/ended/share" && cp -r share/scripts "$work/ended/share" && cp linetab-object "$work/ended"
+  printf '#!/bin/sh\n[ "$1" != verify ] || [ "$2" = --help ] || %s\nexec "%s" "$@"\n' 'kill -KILL $$' "$linetab" >"$work/ended/linetab"
+  chmod +x "$work/ended/linetab"
+  program elf64 app 4,/w 4,/w,at=0 4,/w,at=0xffffffffffffffff
+  expect 'a program that ends before it is known what is dead' 3 '' \
+    "$says $work/app: the program linetab judged nothing, and ended with -9"$'\n' "$work/ended/linetab-object" table "$work/app"
+}
+
+# A size that isn't that of the section's addresses is told by the word that is given it, and by that which meets it.
+sizes() {
+  local told='in what is printed, operations that set one are refused'
+  program elf64 app 4,/w
+  expect_notes 'another size' 0 '' "$note addresses have 8 bytes there, and not 4, as --address-size says: $told"$'\n' \
+    bash -c 'object upgrade "$0" --address-size 4 >"$0.up"' "$work/app"
+  expect_notes 'another size, joined' 0 '' "$note addresses have 8 bytes there, and not 2, as --address-size says: $told"$'\n' \
+    bash -c 'object upgrade "$0" --address-size=2 >"$0.up"' "$work/app"
+  expect_notes 'another size, quiet' 0 '' '' bash -c 'object upgrade "$0" --quiet --address-size 4 >"$0.up"' "$work/app"
+  expect_notes 'the size that it has' 0 '' '' bash -c 'object upgrade "$0" --address-size 8 >"$0.up"' "$work/app"
+  program elf32 app 4,/w,alone
+  expect_notes 'a size that a file may have' 0 '' "$stays" bash -c 'object upgrade "$0" --address-size 2 >"$0.up"' "$work/app"
+  program elf32 app 4,/w,size=8,alone
+  expect_notes 'a size that is not known' 1 $'no 25 malformed at 0x47: extended length\n' "$note units were upgraded for addresses of 4 \
+bytes, and an operation has an operand of another length: if it sets an address of 2, 4 or 8 bytes, linetab-object upgrade \
+--address-size N FILE prints the section for these, which linetab reads"$'\n'"$one$stays" object table "$work/app"
 }
 
 # Each word says of an older program what the program says of the section that upgrade prints.
@@ -91,6 +209,8 @@ words() {
   while read -r words; do
     "$linetab" $words "$work/up" >"$work/wanted" 2>"$work/err"
     expect "$words" 0 '' '' bash -c 'object "$@" --older "$0/app" --quiet | cmp - "$0/wanted"' "$work" $words
+    [[ $words == [tfm]* ]] || continue
+    expect "$words, unasked" 0 '' '' bash -c 'object "$@" "$0/app" --quiet | cmp - "$0/wanted"' "$work" $words
   done <<'END'
 verify
 table
@@ -107,18 +227,26 @@ END
   told="$note its 2 units of version 3 and 4 were upgraded to version 5: $offsets"$'\n'
   expect_notes 'lookups' 0 $'0x1000,0 unit 0 file 1 line 3 column 0 stmt 1 path "/x/src/a.c"\n'\
 $'0x2005,0 unit 98 file 2 line 4 column 0 stmt 1 path "/w/b.c"\n0x2006,0 none\n' "$told" \
-    object lookup --older "$work/app" 0x1000 0x2005 0x2006
-  expect_notes 'units as they are' 1 $'no 25 malformed at 0x4: version 3\n' \
-    "$note its 2 units, the first of src/a.c, are of version 3 and 4; linetab reads DWARF 5 alone: compile with -gdwarf-5, \
-by gcc with -Wa,--gdwarf-5 too, as it is the assembler's; as itself takes --gdwarf-5; with --older they are upgraded first"$'\n' object units "$work/app"
+    object lookup "$work/app" 0x1000 0x2005 0x2006
+  for words in units verify 'dump --rows' 'convert --format 64 --order big' 'units --no-older'; do
+    expect_notes "as they are: $words" 1 $'no 25 malformed at 0x4: version 3\n' \
+      "$note its 2 units, the first of src/a.c, are of version 3 and 4; linetab reads DWARF 5 alone: with --older they are upgraded first; \
+to build it anew: $anew"$'\n' object $words "$work/app"
+  done
+  for words in 'check - examples/hello.csv' 'table -' 'lookup - 0x1000' 'files -' 'md5 -'; do
+    expect_notes "refused: $words" 1 $'no 25 malformed at 0x4: version 3\n' \
+      "$note its 2 units, the first of src/a.c, are of version 3 and 4; linetab reads DWARF 5 alone: without --no-older they are upgraded \
+first; to build it anew: $anew"$'\n' object ${words/-/$work/app} --no-older
+  done
   expect_notes 'and upgraded' 0 $'0x0 32 94\n0x62 32 94\n' "$told" object units --older "$work/app"
-  expect 'a table' 0 '' '' object table --older "$work/app" --quiet -o "$work/app.csv"
-  expect_notes 'a check of it' 0 $'yes\n' "$told" object check --older "$work/app" "$work/app.csv"
-  expect_notes 'a check of standard input' 0 $'yes\n' "$told" object check "$work/app" - --older <"$work/app.csv"
+  expect 'a table' 0 '' '' object table "$work/app" --quiet -o "$work/app.csv"
+  expect_notes 'a check of it' 0 $'yes\n' "$told" object check "$work/app" "$work/app.csv"
+  expect_notes 'the same, asked for' 0 $'yes\n' "$told" object check --older "$work/app" "$work/app.csv"
+  expect_notes 'a check of standard input' 0 $'yes\n' "$told" object check "$work/app" - <"$work/app.csv"
   expect_notes 'a difference' 1 $'no 40 differs at 0x2004,0 table "/w/b.c",5 section "/w/b.c",4\n' "$told" \
-    bash -c 'object table --lines --older --quiet "$0" | sed "\$s/4$/5/" | object check --older "$0" -' "$work/app"
+    bash -c 'object table --lines --quiet "$0" | sed "\$s/4$/5/" | object check "$0" -' "$work/app"
   expect_notes 'a text' 0 $'at 0x1000 /x/src/a.c:3:0 and 0x3000\n' "$told" \
-    bash -c 'echo at 0x1000 and 0x3000 | object symbolize --older "$0"' "$work/app"
+    bash -c 'echo at 0x1000 and 0x3000 | object symbolize "$0"' "$work/app"
   expect_notes 'the same, quiet' 0 $'yes\n' '' object verify --quiet --older "$work/app"
   expect_notes 'standard input' 0 $'yes\n' "$told" object verify --older - <"$work/app"
   expect_notes 'a pipe' 0 $'yes\n' "$told" bash -c 'cat "$0" | object verify --older -' "$work/app"
@@ -155,10 +283,16 @@ upgrade() {
   expect 'its usage' 0 $'Usage: linetab-object upgrade [OPTIONS] <FILE>\n' '' bash -c 'object upgrade --help | grep "^Usage"'
   expect 'no file' 2 '' $'error: the following required arguments were not provided:\n  <FILE>\n\nUsage: linetab-object upgrade <FILE>\n\n'\
 $'For more information, try \'--help\'.\n' object upgrade
-  expect 'the words that take --older' 0 $'units\ndump\ncheck\nverify\nlookup\nfiles\ntable\nconvert\nmd5\nsymbolize\n' '' bash -c '
+  expect_notes 'a section, with --older' 0 '' '' bash -c 'object upgrade "$0/app" --older | cmp - <(object upgrade "$0/app")' "$work"
+  expect 'the words that take --no-older' 0 $'units\ndump\ncheck\nverify\nlookup\nfiles\ntable\nconvert\nmd5\nsymbolize\n' '' bash -c '
     for word in units dump check verify lookup files table convert md5 symbolize upgrade; do
-      ! object "$word" --help | grep -q -e "^      --older  " || echo "$word"
+      object "$word" --help | grep -q -e "^      --older  " || echo "$word takes no --older"
+      ! object "$word" --help | grep -q -e "^      --no-older  " || echo "$word"
     done'
+  expect 'both' 2 '' $'error: --older and --no-older exclude one another\n\nUsage: linetab-object table [OPTIONS] <FILE>...\n\n'\
+$'For more information, try \'--help\'.\n' object table "$work/app" --no-older --older
+  expect 'no older units to upgrade' 2 '' $'error: unexpected argument \'--no-older\' found\n' \
+    bash -c 'object upgrade "$0" --no-older 2> >(head -n 1 >&2)' "$work/app"
 }
 
 refusals() {
@@ -175,9 +309,8 @@ refusals() {
     "$note its unit is of version 7; linetab reads DWARF 5 alone: compile with -gdwarf-5"$'\n' object verify "$work/app"
   program elf64 app 2,/w 3,/w
   expect_notes 'two older units, without --older' 1 $'no 25 malformed at 0x4: version 2\n' \
-    "$note its 2 units, the first of src/a.c, are of version 2 and 3; linetab reads DWARF 5 alone: compile with -gdwarf-5, \
-by gcc with -Wa,--gdwarf-5 too, as it is the assembler's; as itself takes --gdwarf-5; with --older they are upgraded first"$'\n' \
-    object verify "$work/app"
+    "$note its 2 units, the first of src/a.c, are of version 2 and 3; linetab reads DWARF 5 alone: with --older they are upgraded first; \
+to build it anew: $anew"$'\n' object verify "$work/app"
   expect '--older with a value' 2 '' $'error: --older takes no value\n\nUsage: linetab-object verify [OPTIONS] <FILE>...\n\n'\
 $'For more information, try \'--help\'.\n' object verify --older=yes "$work/app"
   program elf64 app 4,/w object
@@ -200,7 +333,7 @@ others() {
   local name
   program elf64 app 4,/w
   for name in old killed; do
-    mkdir -p "$work/$name/share" && cp -r share/object "$work/$name/share" && cp linetab-object "$work/$name"
+    mkdir -p "$work/$name/share" && cp -r share/scripts "$work/$name/share" && cp linetab-object "$work/$name"
     printf '#!/bin/sh\n[ "$1" != upgrade ] || %s\nexec "%s" "$@"\n' \
       "$([ "$name" = old ] && echo 'exit 2' || echo 'kill -KILL $$')" "$linetab" >"$work/$name/linetab"
     chmod +x "$work/$name/linetab"
@@ -219,11 +352,11 @@ left_out() {
   program elf64 app 4,/w 4,/w,at=0 4,/w,at=0
   expect_notes 'discarded code' 0 "$(lines_of /w/)"$'\n' "$note sequences begin at 0x0, $dead"$'\n'\
 "$note its 3 units of version 4 were upgraded to version 5: $offsets"$'\n' \
-    object table --lines --older "$work/app"
+    object table --lines "$work/app"
   program elf64 app 4,/w 3,/w,at=0x1000
   expect_notes 'copies' 0 "$(lines_of /w/)"$'\n' \
     "$note sequences of $work/app hold the same positions, the first of them 0x1000: $why"$'\n'\
-"$note its 2 units of version 3 and 4 were upgraded to version 5: $offsets"$'\n' object table --lines --older "$work/app"
+"$note its 2 units of version 3 and 4 were upgraded to version 5: $offsets"$'\n' object table --lines "$work/app"
 }
 
 several() {
@@ -236,7 +369,7 @@ several() {
   expect_notes 'all in a folder' 1 "$all/a: yes"$'\n'"$all/in/b: yes"$'\n'"$all/in/c: no 25 malformed at 0x4: version 7"$'\n'\
 $'3 files: 2 yes, 1 no, 0 not judged, 1 passed over\n' "$note $all/a: its unit of version 4 was upgraded to version 5: $offsets"$'\n'\
 "$note $all/in/c: its unit is of version 7; linetab reads DWARF 2 to 5 alone: compile with -gdwarf-5"$'\n' object verify --older -r "$all"
-  expect_notes 'units of two' 0 "$all/a:"$'\n0x0 32 94\n\n'"$all/in/b:"$'\n0x0 32 80\n\n2 files: 2 done, 0 no, 0 not judged\n' \
+  expect_notes 'units of two' 0 "$all/a: 0x0 32 94"$'\n'"$all/in/b: 0x0 32 80"$'\n2 files: 2 done, 0 no, 0 not judged\n' \
     "$note $all/a: its unit of version 4 was upgraded to version 5: $offsets"$'\n' object units --older "$all/a" "$all/in/b"
 }
 
@@ -291,9 +424,9 @@ rows() { # NAME PROGRAM
 answers() { # NAME PROGRAM SOURCE
   expect "$1, as it is" 0 $'with --older\n' '' bash -c 'object verify "$0" 2>&1 | grep -o "with --older"' "$2"
   expect "$1" 0 $'yes\n' '' object verify --older --quiet "$2"
-  object table --older --quiet "$2" >"$work/made.csv"
-  expect "$1, its table" 0 $'yes\n' '' object check --older --quiet "$2" "$work/made.csv"
-  expect "$1, a path" 0 "$3"$'\n' '' bash -c 'object files --older --quiet "$0" | cut -d , -f 3 | grep -xF "$1" | sort -u' "$2" "$3"
+  object table --quiet "$2" >"$work/made.csv"
+  expect "$1, its table" 0 $'yes\n' '' object check --quiet "$2" "$work/made.csv"
+  expect "$1, a path" 0 "$3"$'\n' '' bash -c 'object files --quiet "$0" | cut -d , -f 3 | grep -xF "$1" | sort -u' "$2" "$3"
   rows "$1" "$2"
 }
 
@@ -352,6 +485,7 @@ clang, lines alone:clang:main.c:clang -gdwarf-4 -gline-tables-only -o made main.
 clang, in the 64-bit format:clang:main.c:clang -gdwarf-4 -gdwarf64 -o made main.c part.c
 clang++:clang++:main.cc:clang++ -gdwarf-4 -o made main.cc part.cc
 clang, big-endian:clang ld.lld:bare.c:clang --target=powerpc64-linux-gnu -nostdlib -ffreestanding -fuse-ld=lld -gdwarf-4 -o made bare.c
+clang, for Android:clang ld.lld:bare.c:clang --target=aarch64-linux-android21 -nostdlib -ffreestanding -fuse-ld=lld -g -o made bare.c
 clang, of 32 bits:clang ld.lld:bare.c:clang --target=i686-linux-gnu -nostdlib -ffreestanding -fuse-ld=lld -gdwarf-2 -o made bare.c
 clang, of 16 bits:clang ld.lld:bare.c:clang --target=msp430 -ffreestanding -gdwarf-4 -c bare.c && ld.lld -e _start -Ttext=0x1000 --image-base=0 bare.o -o made
 clang, WebAssembly:clang wasm-ld:bare.c:clang --target=wasm32 -nostdlib -gdwarf-4 -Wl,--entry=_start -o made bare.c
@@ -374,7 +508,7 @@ tables() {
   (cd "$work" && gcc -gdwarf-4 -O1 -o older m.c) >"$work/err" 2>&1 || { skip "gcc can't make it here: tables of other tools"; return; }
   while IFS=: read -r tool words; do
     here "a table by $tool" "$tool" || continue
-    expect "a table by $tool" 0 $'yes\n' '' bash -c 'cd "$work" && eval "$0" | object check --quiet --older older -' "$words"
+    expect "a table by $tool" 0 $'yes\n' '' bash -c 'cd "$work" && eval "$0" | object check --quiet older -' "$words"
   done <<'END'
 llvm-dwarfdump:llvm-dwarfdump --debug-line older | bin/linetab-table llvm-dwarfdump - --paths-of older 2>err
 readelf:readelf --wide --debug-dump=decodedline older | bin/linetab-table readelf - --paths-of older 2>err
@@ -387,6 +521,9 @@ END
 PATH=$(dirname "$(python3 -c 'import sys; print(sys.executable)')"):$PATH
 formats
 directories
+supplements
+faults
+sizes
 words
 upgrade
 refusals

@@ -9,7 +9,7 @@ at='/w/src/small/a.c:1:50'
 # A folder with the script, its modules and the program alone, as they are installed.
 mkdir -p "$work/bin" "$work/share/linetab"
 cp linetab-object "$work/bin"
-cp -r share/object "$work/share/linetab"
+cp -r share/scripts "$work/share/linetab"
 ln -s "$PWD/crates/linetab/out/linetab" "$work/bin/linetab"
 object() { # WORD..
   "$work/bin/linetab-object" "$@"
@@ -70,11 +70,11 @@ expect 'an output' 0 '' '' bash -c 'echo 0x1137 | object symbolize "$0" -o "$0.t
 expect 'which is the text' 0 "0x1137 $at"$'\n' '' cat "$work/app.txt"
 for base in 0x g -1 ' 1' 1_0 0x11111111111111111; do
   expect "a base that is none: $base" 2 '' "error: --base wants 1 to 16 hexadecimal digits, and not $base"$'\n\nUsage: linetab-object symbolize '\
-$'[OPTIONS] <FILE>\n\nFor more information, try \'--help\'.\n' object symbolize "$work/app" --base="$base" </dev/null
+$'[OPTIONS] <FILE> <TEXT\n\nFor more information, try \'--help\'.\n' object symbolize "$work/app" --base="$base" </dev/null
 done
-expect 'no file' 2 '' $'error: one FILE is wanted\n\nUsage: linetab-object symbolize [OPTIONS] <FILE>\n\nFor more information, try \'--help\'.\n' \
+expect 'no file' 2 '' $'error: one FILE is wanted\n\nUsage: linetab-object symbolize [OPTIONS] <FILE> <TEXT\n\nFor more information, try \'--help\'.\n' \
   object symbolize
-expect 'two files' 2 '' $'error: one FILE is wanted\n\nUsage: linetab-object symbolize [OPTIONS] <FILE>\n\nFor more information, try \'--help\'.\n' \
+expect 'two files' 2 '' $'error: one FILE is wanted\n\nUsage: linetab-object symbolize [OPTIONS] <FILE> <TEXT\n\nFor more information, try \'--help\'.\n' \
   object symbolize "$work/app" "$work/app" </dev/null
 expect 'an option that is none' 2 '' $'error: unexpected argument \'--other\' found\n\n  tip: to pass \'--other\' as a value, use '\
 $'\'-- --other\'\n\nUsage: linetab-object symbolize [OPTIONS] <FILE>\n\nFor more information, try \'--help\'.\n' \
@@ -86,8 +86,38 @@ expect 'no addresses among its options' 1 '' '' bash -c 'object symbolize --help
 # ---- sections that aren't good, and copies
 
 python3 tests/images.py elf64 "$work/bad" "${hello[0]}"
-expect 'a section that is refused' 1 $'no 28 string outside unit 0x0 directories entry 0\n' \
-  "$says note: the file has no .debug_line_str and no .debug_str, in which the text may be"$'\n' object symbolize "$work/bad" </dev/zero
+# The text of a program that is refused is passed through as it is, and the status says why.
+refused="$says $work/bad: no 28 string outside unit 0x0 directories entry 0"$'\n'
+expect 'a section that is refused' 1 $'at 0x1137\nand 0x113e' \
+  "$refused$says note: the file has no .debug_line_str and no .debug_str, in which the text may be"$'\n' \
+  bash -c 'printf "at 0x1137\nand 0x113e" | object symbolize "$0"' "$work/bad"
+expect 'the same, quiet' 1 $'0x1137\n' "$refused" bash -c 'echo 0x1137 | object symbolize "$0" --quiet' "$work/bad"
+expect 'a refused one that ends before its text does' 0 $'1000000\n1\n' "$refused" \
+  bash -c '(head -c 1000000 /dev/zero | object symbolize "$0" --quiet; echo "$?" >"$0.status") | wc -c; cat "$0.status"' "$work/bad"
+expect 'a section that is refused, and an output' 1 $'0x1137\n' "$refused" \
+  bash -c 'echo 0x1137 | object symbolize "$0" --quiet -o "$0.txt"' "$work/bad"
+expect 'which is not written' 1 '' '' test -e "$work/bad.txt"
+expect 'a section that is refused, and a closed input' 1 '' "$refused$says standard input can't be read: Is a directory"$'\n' \
+  bash -c 'object symbolize "$0" --quiet <&-' "$work/bad"
+expect 'a section that is refused, and a full device' 3 '' "$refused$says cannot write"$'\n' \
+  bash -c 'echo 0x1137 | object symbolize "$0" --quiet >/dev/full' "$work/bad"
+expect 'a file that is not there' 3 $'0x1137\n' "$says $work/none: cannot read it: No such file or directory"$'\n' \
+  bash -c 'echo 0x1137 | object symbolize "$0"' "$work/none"
+python3 tests/images.py elf64 "$work/no" code=0x1000,0x1000
+expect 'a program without debug information' 3 $'0x1137\n' \
+  "$says $work/no: it has no .debug_line: compile and link it with -gdwarf-5, and don't strip it"$'\n' \
+  bash -c 'echo 0x1137 | object symbolize "$0"' "$work/no"
+expect 'no room for its sections' 0 "$says $work/app: its sections can't be written to a temporary file: none"$'\n0x1137\n3\n' '' \
+  bash -c '{ echo 0x1137 | (ulimit -f 0; object symbolize "$0" 2>&1); echo "$?"; } | sed "s/: File too large$/: none/"' "$work/app"
+expect 'wrong words, by which no text is read' 0 $'2\n0x1137\n' '' \
+  bash -c '(object symbolize "$0" --dead here 2>"$0.err"; echo $?; cat) < <(echo 0x1137)' "$work/app"
+python3 tests/older_program.py elf64 "$work/older" 4,/w code=0x1000,0x1000
+expect 'older units' 0 $'0x1004 /w/b.c:4:0\n' '' bash -c 'echo 0x1004 | object symbolize "$0" --quiet' "$work/older"
+expect 'older units, which are refused' 1 $'0x1004\n' "$says $work/older: no 25 malformed at 0x4: version 4"$'\n' \
+  bash -c 'echo 0x1004 | object symbolize "$0" --quiet --no-older' "$work/older"
+python3 tests/older_program.py elf64 "$work/seven" 4,/w 7,/w code=0x1000,0x1000
+expect 'units that are refused when they are upgraded' 1 $'0x1004\n' "$says $work/seven: no 25 malformed at 0x4e: version 7"$'\n' \
+  bash -c 'echo 0x1004 | object symbolize "$0" --quiet' "$work/seven"
 cat examples/hello.debug_line examples/hello.debug_line >"$work/twice"
 python3 tests/images.py elf64 "$work/copies" .debug_line="$work/twice" "${hello[1]}"
 expect 'copies' 0 "0x1137 $at"$'\n' "$says note: sequences of $work/copies hold the same positions, the first of them 0x1129: the linker \
@@ -116,11 +146,13 @@ expect 'a closed output' 3 '' "$says cannot write"$'\n' bash -c 'echo 0x1137 | o
 expect 'a closed input' 3 '' "$says $work/app: standard input can't be read: Is a directory"$'\n' bash -c 'object symbolize "$0" <&-' "$work/app"
 expect 'a closed pipe' 0 $'3\n' '' bash -c '{ yes 0x1137 | object symbolize "$0"; echo "$?" >"$0.status"; } | head -n 1 >/dev/null; cat "$0.status"' \
   "$work/app"
-mkdir "$work/ends" && cp linetab-object "$work/ends" && mkdir "$work/ends/share" && cp -r share/object "$work/ends/share"
+mkdir "$work/ends" && cp linetab-object "$work/ends" && mkdir "$work/ends/share" && cp -r share/scripts "$work/ends/share"
 printf '#!/bin/sh\n[ "$2" = --help ] && exec "%s" "$@"\nread a; echo "0x0,0 none"; read a; kill -KILL $$\n' "$work/bin/linetab" >"$work/ends/linetab"
 chmod +x "$work/ends/linetab"
-expect 'a program that is killed' 0 $'-9\n' '' bash -c 'yes 0x1137 | head -n 100000 |
-  python3 -c "import subprocess, sys; print(subprocess.call(sys.argv[1:]))" "$0/linetab-object" symbolize "$1"' "$work/ends" "$work/app"
+# What it didn't answer passes through as it is.
+expect 'a program that is killed' 0 $'-9\n100000\n' '' bash -c 'yes 0x1137 | head -n 100000 |
+  python3 -c "import subprocess, sys; print(subprocess.call(sys.argv[1:]), file=sys.stderr)" "$0/linetab-object" symbolize "$1" 2>"$0.status" |
+    grep -c "^0x1137$" >"$0.count"; cat "$0.status" "$0.count"' "$work/ends" "$work/app"
 
 # ---- texts that are made up, and hostile ones
 

@@ -1,0 +1,1 @@
+"""What `linetab-object` and `linetab-table` are made of."""

@@ -1,0 +1,79 @@
+"""What a file is, by its first bytes: a program, a symbol file, an address table, or a text of which a table can be made."""
+
+import re
+
+from scripts.object.image import READERS
+
+HEAD = 1 << 12  # bytes that tell it
+
+# Those that a maker reads are named as the maker is.
+BREAKPAD, GSYM, LLVM, READELF, PROGRAM, TABLE = "breakpad", "gsym", "llvm-dwarfdump", "readelf", "points", "table"
+NAMES = {
+    BREAKPAD: "a symbol file of Breakpad",
+    GSYM: "a GSYM file",
+    LLVM: "what llvm-dwarfdump --debug-line prints",
+    READELF: "what readelf --debug-dump=decodedline prints",
+    PROGRAM: "a program",
+    TABLE: "an address table",
+}
+MAGICS = ((b"MODULE ", BREAKPAD), (b"MYSG", GSYM), (b"GSYM", GSYM))
+PRINTS = ((b".debug_line contents:", LLVM), (b"debug_line[0x", LLVM), (b"Contents of the .debug_line section:", READELF))
+MARK = b"\xef\xbb\xbf"  # of UTF-8
+SEPARATORS = ",;\t|"
+
+
+def kind_of(head):
+    """What a file is that begins so, or None."""
+    if head.startswith(tuple(magic for magic, _ in READERS)):
+        return PROGRAM
+    kind = next((kind for magic, kind in MAGICS if head.startswith(magic)), None)
+    if kind:
+        return kind
+    names = {name.strip().lower() for name in fields(first_line(head))}
+    if {"low", "high"} <= names and names & {"path", "file"}:
+        return TABLE
+    return next((kind for text, kind in PRINTS if text in head), None)
+
+
+def first_line(head):
+    """The first line of a text that isn't empty, one character for each byte, without its end."""
+    text = head[:HEAD].removeprefix(MARK).lstrip(b"\r\n")
+    return re.split(rb"[\r\n]", text, maxsplit=1)[0].decode("latin-1")
+
+
+def separator_of(line):
+    """What stands between the fields of a line: a comma, if nothing else stands there more often."""
+    return max(SEPARATORS, key=line.count)
+
+
+def fields(line):
+    """The fields of a line."""
+    import csv
+
+    try:
+        return next(csv.reader([line], delimiter=separator_of(line)), [])
+    except csv.Error:
+        return [line]
+
+
+def foreign(maker, head, name):
+    """What to do with a file that another maker than this one reads, or None if this one may read it."""
+    kind = kind_of(head)
+    if kind in (None, maker.removesuffix("-17")):
+        return None
+    if kind == TABLE:
+        return "it is an address table already: linetab-object check PROGRAM %s compares it with a program" % name
+    if kind == PROGRAM:
+        return "it is a program: " + OF_PROGRAM[maker] % name
+    return "it is %s: linetab-table %s %s" % (NAMES[kind], kind, name)
+
+
+# What a maker reads of a program.
+OF_GSYM = "llvm-gsymutil --convert %s --out-file FILE makes a GSYM file of it"
+OF_PROGRAM = {
+    "gsym": OF_GSYM,
+    "gsym-17": OF_GSYM,
+    "breakpad": "dump_syms %s | linetab-table breakpad -",
+    "llvm-dwarfdump": "llvm-dwarfdump --debug-line %s | linetab-table llvm-dwarfdump -",
+    "readelf": "readelf --wide --debug-dump=decodedline %s | linetab-table readelf -",
+}

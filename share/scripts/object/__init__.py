@@ -1,0 +1,1 @@
+"""Sections of whole programs, on which words of `linetab` are run."""

@@ -1,0 +1,162 @@
+"""Where answers are written."""
+
+import errno
+import os
+import re
+import stat
+
+from scripts import bounded
+from scripts.bounded import PIECE, place_of
+from scripts.object.program import without_name
+from scripts.telling import put_whole, shown
+
+
+SAME = re.compile(rb'^unit [0-9]+ file [0-9]+ same "(.*)"$', re.M)  # a line of `md5`
+
+
+class Unwritten(Exception):
+    """What was to be written couldn't be."""
+
+
+class Overwriting(Exception):
+    """What was to be written would be in the place of a file that is read."""
+
+
+class Standard:
+    """Standard output."""
+
+    def write(self, piece):
+        try:
+            put_whole(1, piece)
+        except OSError as error:
+            raise Unwritten("" if isinstance(error, BrokenPipeError) else "cannot write") from None
+
+    def end(self, status):
+        """The answer is whole."""
+
+    def know(self, **facts):
+        """Takes what is known of the answer beside its lines."""
+
+
+class Named(Standard):
+    """Standard output, where answers about several files stand one behind another: each line has its file's name before it."""
+
+    def __init__(self, name):
+        self.name = os.fsencode(shown(name) + ": ")
+        self.is_between = True  # whether no line is begun
+
+    def write(self, piece):
+        if not piece:
+            return
+        begun = piece.removesuffix(b"\n")
+        named = (self.name if self.is_between else b"") + begun.replace(b"\n", b"\n" + self.name)
+        self.is_between = len(begun) < len(piece)
+        super().write(named + b"\n" * self.is_between)
+
+    def end(self, status):
+        if not self.is_between:
+            self.write(b"\n")
+
+
+class Whole(Standard):
+    """A file that is written whole, or not at all. What is no answer goes to standard output."""
+
+    def __init__(self, path, names_inputs=False):
+        self.path = path
+        self.names_inputs = names_inputs  # whether the answer names files that the program read for it
+        self.place = os.path.realpath(path)
+        try:
+            folder = os.path.dirname(self.place)
+            os.stat(folder)
+            if os.path.isdir(self.place):
+                raise IsADirectoryError(errno.EISDIR, os.strerror(errno.EISDIR))
+            self.file = without_name(folder)
+        except OSError as error:
+            raise self.unwritten(error) from None
+
+    def keep_off(self, names):
+        """Refuses to write onto one of these files, or onto one that was read. Either may have other names, as by a link."""
+        places = {place_named(name) for name in names} | bounded.files_read
+        if place_named(self.place) in places - {None}:
+            raise Overwriting("-o would write onto %s, which is read: give another file" % shown(self.path))
+
+    def unwritten(self, error):
+        return Unwritten("%s: cannot write it: %s" % (shown(self.path), error.strerror))
+
+    def write(self, piece):
+        try:
+            put_whole(self.file, piece)
+        except OSError as error:
+            raise self.unwritten(error) from None
+
+    def pieces(self):
+        os.lseek(self.file, 0, os.SEEK_SET)
+        while piece := os.read(self.file, PIECE):
+            yield piece
+
+    def end(self, status):
+        if status != 0:
+            for piece in self.pieces():
+                super().write(piece)
+            return
+        self.keep_off(listed_in(b"".join(self.pieces())) if self.names_inputs else ())
+        try:
+            self.put()
+        except OSError as error:
+            raise self.unwritten(error) from None
+
+    def put(self):
+        """Puts the file in its place. What stands there is the file before or the whole new one, unless it is no regular file."""
+        mode = 0o666 & ~umask()
+        try:
+            there = os.stat(self.place)
+        except FileNotFoundError:
+            pass
+        else:
+            if not stat.S_ISREG(there.st_mode):
+                self.copy(os.open(self.place, os.O_WRONLY))
+                return
+            mode = stat.S_IMODE(there.st_mode)
+        new = "%s.%d.new" % (self.place, os.getpid())
+        try:
+            self.copy(os.open(new, os.O_WRONLY | os.O_CREAT | os.O_EXCL, 0o600), mode)
+            os.rename(new, self.place)
+        except BaseException:
+            remove(new)
+            raise
+
+    def copy(self, descriptor, mode=None):
+        try:
+            for piece in self.pieces():
+                put_whole(descriptor, piece)
+            if mode is not None:
+                os.fchmod(descriptor, mode)
+        finally:
+            os.close(descriptor)
+
+
+def listed_in(answer):
+    """The paths of the files that `md5` read, by its answer."""
+    return [re.sub(rb"\\x([0-9a-f]{2})", lambda it: bytes([int(it[1], 16)]), path) for path in SAME.findall(answer)]
+
+
+def place_named(name):
+    """By what the regular file of a name is known, or None if there is none. The name - is that of standard input."""
+    try:
+        return place_of(os.fstat(0) if name == "-" else os.stat(name))
+    except OSError:
+        return None
+
+
+def remove(path):
+    try:
+        os.unlink(path)
+    except OSError:
+        pass
+
+
+def umask():
+    """The umask, which can't be read alone."""
+    mask = os.umask(0o77)
+    os.umask(mask)
+    return mask

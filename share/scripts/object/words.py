@@ -1,0 +1,311 @@
+"""The words that are typed, by what the help of the program says of each word, and the texts that say how they are used."""
+
+import os
+
+from scripts.bounded import standard_input
+from scripts.object.program import asked
+from scripts.telling import put_error, shown
+
+FILE = "A program, its debug information apart, a .dSYM folder, or - for standard input"
+OUTPUT = ("-o, --output <FILE>", "Writes the answer to a file, whole where the status is 0, and else not at all")
+# The words that are about the bytes of a section, so that units of versions 2 to 4 are upgraded for them only if that is asked for.
+OF_BYTES = ("units", "dump", "convert", "verify")
+OLDER = ("--older", "Upgrades units of versions 2 to 4 to version 5 first; offsets of units are then those of the upgraded section")
+NO_OLDER = ("--no-older", "Takes units of versions 2 to 4 as they are, as it does without this")
+UNASKED = ("--older", "Upgrades units of versions 2 to 4 to version 5 first, as it does without this")
+REFUSED = ("--no-older", "Refuses units of versions 2 to 4; without it they are upgraded to version 5 first, and offsets of units are "
+                         "those of the upgraded section")
+ANYWAY = ("--older", "Changes nothing: units of versions 2 to 4 are upgraded without it too")
+# What `upgrade` of the program has to be given, and isn't here.
+GIVEN = {
+    "--address-size": "How many bytes an address has in units of versions 2 to 4, in place of what .debug_info or the kind of the file says",
+    "--directories": "A file with the compilation directories of these units, in place of those of .debug_info, or - for standard input",
+}
+RECURSIVE = ("-r, --recursive", "Takes all programs in the folders among FILEs, and passes over what has no line numbers")
+BASE = ("--base <ADDRESS>", "The address at which the program was loaded, which is taken away from each address")
+JSON = ("--json", "Writes an object of JSON on a line for each answer, with its notes, in place of the answer")
+SYMBOLS = ("<SYMBOLS>", "An address table, a symbol file of Breakpad or a GSYM file, or - for standard input")
+CHECK = [
+    ("--any-build", "Compares a symbol file of another build too"),
+    ("--whole", "Compares a symbol file at all addresses, also where it has no answer"),
+    ("--base <ADDRESS>", "The address from which a symbol file of Breakpad counts, in place of that at which the program is loaded"),
+    ("--map <FROM=TO>", "Puts TO in the place of FROM where a name in a symbol file begins so; can be given several times"),
+    ("--max <N>", "With --all: ends at so many places where the two answer differently"),
+    JSON,
+]
+SYMBOLIZE = ("symbolize", "Passes a text through, with the path, line and column behind each address that is in it")
+MORE = "\nFor more information, try '--help'.\n"
+
+
+# Options that some words take, and what is said of the others.
+ELSEWHERE = {
+    "--json": "%s takes %s, and no --json, which is for check and verify",
+    "--max": "%s takes %s, and no --max, which is for check --all",
+    **dict.fromkeys(("-r", "--recursive"), "%s takes %s, and no folders, which -r is for"),
+}
+
+
+class Usage(Exception):
+    """Words that ask for nothing that is done here."""
+
+
+def rows(text, heading):
+    """The rows of a part of a help: what stands left, and the text at its right."""
+    _, _, part = text.partition("\n%s:\n" % heading)
+    found = []
+    for line in part.split("\n"):
+        if not line.startswith(" "):
+            break
+        left, _, right = line.strip().partition("  ")
+        found.append((left, right.strip()))
+    return found
+
+
+def table_of(heading, listed):
+    """The part of a help that has these rows."""
+    width = max(len(left) for left, _ in listed)
+    return "\n%s:\n%s" % (heading, "".join("  %s  %s\n" % (left.ljust(width), right) for left, right in listed))
+
+
+def names_of(left):
+    """The names of an option."""
+    return [name for name in left.partition("<")[0].replace(",", " ").split() if name.startswith("-")]
+
+
+class Word:
+    """A word of the program, by its help, or of this one."""
+
+    def __init__(self, name, text):
+        self.name, self.text = name, text
+        self.usage = text.partition("\nUsage: ")[2].partition("\n")[0]
+        self.arguments = rows(text, "Arguments")
+        # Its answer is bytes, and not lines, where it prints a section.
+        self.takes_many = name not in ("convert", "upgrade") and len(self.arguments) == 1
+        self.upgrades = name not in OF_BYTES  # without being asked
+        self.own = self.of_older() + [OUTPUT] + [RECURSIVE] * self.takes_many + [JSON] * (name == "verify")
+        self.options = [(left, GIVEN.get(names_of(left)[-1], right)) for left, right in rows(text, "Options")]
+        # What the program is asked in its place, with what else, and what it is fed first.
+        self.engine, self.added, self.probe = name, [], b""
+        self.taken = {name for left, _ in self.options for name in names_of(left)}
+
+    def of_older(self):
+        """Its options about older units."""
+        if self.name == "upgrade":
+            return [ANYWAY]
+        return [UNASKED, REFUSED] if self.upgrades else [OLDER, NO_OLDER]
+
+    def first(self):
+        """What is called for first."""
+        return "<FILE>..." if self.takes_many else "<FILE>"
+
+    def used(self):
+        """How it is called, as it is here."""
+        return "linetab-object " + without_size(self.usage.replace("<SECTION>", self.first())).partition(" ")[2]
+
+    def taken_by_it(self):
+        """What stands behind it, in words."""
+        others = [left.strip("<>[].") + ".." * left.endswith("...") for left, _ in self.arguments[1:]]
+        return " and ".join([("FILEs" if self.takes_many else "one FILE"), *others])
+
+    def help(self):
+        """Its help, as it is here."""
+        arguments = [(self.first(), FILE)] + self.arguments[1:]
+        options = [(left if left.startswith("-") and left[1] != "-" else "    " + left, right) for left, right in self.options]
+        options[-1:-1] = [(left if left[1] != "-" else "    " + left, right) for left, right in self.own]
+        rest = self.text.partition("\nOptions:\n")[2].partition("\n\n")[2]
+        return "%s\n\nUsage: %s\n%s%s%s" % (
+            self.text.partition("\n")[0], self.used(), table_of("Arguments", arguments), table_of("Options", options),
+            "\n" + rest if rest else "")
+
+
+class Check(Word):
+    """The word check, which takes symbol files too."""
+
+    def __init__(self, text):
+        super().__init__("check", text.replace("<TABLE>", SYMBOLS[0]))
+        self.arguments[1:] = [SYMBOLS]
+        self.own += CHECK
+
+
+class Symbolize(Word):
+    """The word that is of this program alone. It takes what lookups take, but for addresses."""
+
+    def __init__(self, lookup):
+        super().__init__("symbolize", lookup.text.replace(" lookup ", " symbolize ").replace(" [ADDRESS]...", " <TEXT"))
+        self.text = SYMBOLIZE[1] + "\n" + self.text.partition("\n")[2]
+        self.takes_many = False
+        self.arguments = self.arguments[:1]
+        self.own = [*self.of_older(), BASE, OUTPUT]
+        self.engine, self.added, self.probe = "lookup", ["--addresses", "-"], b"0x0\n"
+        self.options = [row for row in self.options if names_of(row[0])[-1] not in ("--addresses", "--op")]
+        self.taken -= {"--addresses", "--op"}
+
+
+class Given:
+    """The words that were typed behind the first one."""
+
+    def __init__(self, word, typed):
+        self.files, self.others, self.options = [], [], []
+        self.own, self.names = {}, set()  # those of this program, and the names of all
+        self.maps = []  # pairs of beginnings of paths
+        self.is_closed = False  # whether -- stands among them
+        self.word = word
+        valued = {name: "<" in left for left, _ in word.options + word.own for name in names_of(left)}
+        own = {name: names_of(left)[-1] for left, _ in word.own for name in names_of(left)}
+        typed = iter(typed)
+        for each in typed:
+            if self.is_closed or each == "-" or not each.startswith("-"):
+                self.files.append(each)
+            elif each == "--":
+                self.is_closed = True
+            else:
+                self.add_option(each, typed, valued, own)
+        if not word.takes_many:
+            self.files, self.others = self.files[:1], self.files[1:]
+        if {"--older", "--no-older"} <= self.names:
+            raise Usage("--older and --no-older exclude one another")
+        self.upgrades = "--older" in self.names or word.upgrades and "--no-older" not in self.names
+        self.text = standard_input()  # what symbolize passes through
+        self.is_quiet = "--quiet" in self.names
+        self.is_several = word.takes_many and (len(self.files) > 1 or "--recursive" in self.own)
+        self.is_json = "--json" in self.own
+        self.base()
+        self.most()
+
+    def add_option(self, each, typed, valued, own):
+        name, equals, value = each.partition("=")
+        if each[:2] in own and each[1] != "-" and len(each) > 2:
+            name, equals, value = each[:2], "=", each[2:]
+        parts = [each]
+        if valued.get(name) and not equals:
+            value = next(typed, None)
+            parts += [value] * (value is not None)
+        elif name in own and equals and not valued[name]:
+            raise Usage("%s takes no value" % name)
+        elif name in ELSEWHERE and name not in own:
+            raise Usage(ELSEWHERE[name] % (self.word.name, self.word.taken_by_it()))
+        if name in own and valued[name] and not value:
+            raise Usage("%s wants a value" % name)
+        self.names.add(own.get(name, name))
+        if name == "--map":
+            self.add_map(value)
+        elif name in own:
+            self.own[own[name]] = value
+        else:
+            self.options.append(parts)
+
+    def add_map(self, text):
+        start, is_there, other = text.partition("=")
+        if not is_there:
+            raise Usage("--map wants FROM=TO, and not %s" % shown(text))
+        self.maps.append((os.fsencode(start), os.fsencode(other)))
+
+    def mapped(self, spans):
+        """Spans, in whose paths the beginnings are changed that --map names: the first of them that fits."""
+        def changed(path):
+            for start, other in self.maps:
+                if path.startswith(start):
+                    return other + path[len(start) :]
+            return path
+
+        if not self.maps:
+            return spans
+        return [(low, high, (changed(path), *rest)) for low, high, (path, *rest) in spans]
+
+    def words_of_section(self):
+        """The options for the program that are about the section."""
+        of_table = ("--partial", "--at-least", "--all", "--ends", "--quiet")
+        return [part for option in self.options if option[0].partition("=")[0] not in of_table for part in option]
+
+    def base(self):
+        """The address at which the program was loaded, if it is given."""
+        text = self.own.get("--base")
+        if text is None:
+            return None
+        digits = text[2:] if text[:2] in ("0x", "0X") else text
+        if not 0 < len(digits) <= 16 or not set(digits) <= set("0123456789abcdefABCDEF"):
+            raise Usage("--base wants 1 to 16 hexadecimal digits, and not %s" % shown(text))
+        return int(digits, 16)
+
+    def value_of(self, name):
+        """What was typed behind an option of the program, where it was."""
+        for first, *value in self.options:
+            start, equals, joined = first.partition("=")
+            if start == name:
+                return joined if equals else "".join(value)
+        return None
+
+    def most(self):
+        """How many places are listed at most where the two answer differently, or None if all are."""
+        text = self.own.get("--max")
+        if text is None:
+            return None
+        if "--all" not in self.names:
+            raise Usage("--max is for check --all")
+        if not (text.isascii() and text.isdigit() and len(text) <= 20 and int(text)):
+            raise Usage("--max wants a number from 1 on, and not %s" % shown(text))
+        return int(text)
+
+    def inputs(self):
+        """The names of the files that are read, as far as they are typed; - is standard input."""
+        of_files = {name for left, _ in self.word.options if left.endswith("<FILE>") for name in names_of(left)}
+        named = [option[0].split("=", 1) + option[1:] for option in self.options]
+        values = [option[1] for option in named if option[0] in of_files and len(option) > 1]
+        return [*self.files, *(self.others if self.word.name == "check" else ()), *values, *["-"] * bool(self.word.probe)]
+
+    def words(self):
+        """The options for the program, without --quiet: its notes are left out here."""
+        return [part for option in self.options if option != ["--quiet"] for part in option]
+
+    def behind(self):
+        """What stands behind the section."""
+        return ["--"] * (self.is_closed and bool(self.others)) + self.others
+
+
+def without_size(usage):
+    """How a word is used, without the size of addresses, which is given here."""
+    start, is_there, rest = usage.partition(" --address-size <")
+    return start + rest.partition(">")[2] if is_there else usage
+
+
+def renamed(text):
+    """A text of the program about how it is used, as it is here."""
+    text = without_size(text.replace("Usage: linetab ", "Usage: linetab-object "))
+    return text.replace("'linetab'", "'linetab-object'").replace("<SECTION>", "<FILE>").replace("<TABLE>", SYMBOLS[0])
+
+
+def put_usage(text):
+    put_error(os.fsencode(text))
+
+
+def misused(word, given, needed=()):
+    """Tells what the program says of these words, without those that are given for it but for those that they need, and gives its
+    status."""
+    words = [*needed, *(part for option in given.options for part in option)]
+    if word.name == "upgrade" and "--address-size" not in given.names:
+        words += ["--address-size", "8"]
+    status, _, said = asked([word.engine, *words, *word.added, *given.files[:1], *given.behind()])
+    said = renamed(said)
+    if word.probe:
+        said = said.replace("linetab-object %s " % word.engine, "linetab-object %s " % word.name).replace(" [ADDRESS]...", "")
+    put_usage(said)
+    return status
+
+
+def known(name):
+    """The exit status of the program's help of a word, and the word of this name, where there is one."""
+    status, text, said = asked(["lookup" if name == SYMBOLIZE[0] else name, "--help"])
+    put_usage(renamed(said))
+    if status != 0:
+        return status, None
+    if name == "check":
+        return status, Check(text)
+    word = Word(name, text)
+    return status, Symbolize(word) if name == SYMBOLIZE[0] else word
+
+
+def commands():
+    """The part of the help that lists the words."""
+    listed = rows(asked(["--help"])[1], "Commands")
+    listed[-1:-1] = [SYMBOLIZE] if listed else []
+    return table_of("Commands", listed) if listed else ""

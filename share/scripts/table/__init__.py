@@ -1,0 +1,1 @@
+"""Address tables of what other tools make: a module for each maker gives spans."""

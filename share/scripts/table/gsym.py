@@ -1,0 +1,153 @@
+"""GSYM files of version 1, as LLVM's reader answers from them."""
+
+import itertools
+import struct
+
+from scripts.bounded import Refusal, leb
+from scripts.table.source import CUT
+from scripts.table.spans import BEYOND, FIRST, LONGEST, steps
+
+
+class Gsym:
+    """A GSYM file: functions in the order of their addresses, each with a line table, and the files that these name."""
+
+    def __init__(self, data):
+        self.order = {b"MYSG": "<", b"GSYM": ">"}.get(data[:4])
+        if self.order is None:
+            raise Refusal("it isn't a GSYM file")
+        self.data, self.paths = data, {}
+        _, version, width, _, base, count, strings, strings_size = self.numbers("IHBBQIII", 0)
+        if version != 1:
+            raise Refusal("it is a GSYM file of version %d, of which nothing is known here" % version)
+        kind = {1: "B", 2: "H", 4: "I", 8: "Q"}.get(width)
+        if kind is None or strings + strings_size > len(data):
+            raise Refusal(CUT)
+        self.starts = [base + offset for offset in self.numbers("%d%s" % (count, kind), 48)]
+        at = -(-(48 + width * count) // 4) * 4
+        self.infos = self.numbers("%dI" % count, at)
+        (self.file_count,) = self.numbers("I", at + 4 * count)
+        self.files = at + 4 * count + 4
+        self.strings = data[strings : strings + strings_size]
+        # What may still be read of line tables. Those of two functions have no byte in common, so it is enough.
+        self.left = len(data)
+
+    def numbers(self, layout, at):
+        return struct.unpack_from(self.order + layout, self.data, at)
+
+    def text(self, offset):
+        end = self.strings.find(b"\0", offset, offset + LONGEST + 1)
+        return self.strings[offset : end if end >= 0 else offset + LONGEST + 1]
+
+    def path(self, number):
+        """The path of a file: its directory and its name, or nothing where it has neither."""
+        if number not in self.paths:
+            if number >= self.file_count:
+                raise Refusal("it has no file %d, which a line table names" % number)
+            folder, name = map(self.text, self.numbers("II", self.files + 8 * number))
+            separator = b"\\" if b"\\" in folder and b"/" not in folder else b"/"
+            if folder and not folder.endswith(separator):
+                folder += separator
+            self.paths[number] = folder + name
+        return self.paths[number]
+
+    def functions(self):
+        """Each function: where it answers, its own start, and where its info begins. Of several that start at one address each
+        answers where those before it don't."""
+        if any(low > high for low, high in zip(self.starts, self.starts[1:])) or self.starts and self.starts[-1] >= BEYOND:
+            raise Refusal(CUT)
+        for start, group in itertools.groupby(range(len(self.starts)), key=self.starts.__getitem__):
+            group = list(group)
+            following = self.starts[group[-1] + 1] if group[-1] + 1 < len(self.starts) else BEYOND - 1
+            low = start
+            for number in group:
+                (size,) = self.numbers("I", self.infos[number])
+                # One without a size, as of Darwin's symbols, goes up to the next.
+                high = min(start + size, following) if size else following
+                if low < high:
+                    yield low, high, start, self.infos[number]
+                    low = high
+
+    def line_table(self, info):
+        """The bytes of a function's line table, or none where it has none or no name."""
+        (name,) = self.numbers("I", info + 4)
+        at, found = info + 8, b""
+        while name:
+            kind, size = self.numbers("II", at)
+            self.left -= size + 8
+            if self.left < 0 or at + 8 + size > len(self.data):
+                raise Refusal(CUT)
+            if kind == 0:
+                return found
+            if kind == 1:
+                found = self.data[at + 8 : at + 8 + size]
+            at += 8 + size
+        return b""
+
+    def rows(self, table, address):
+        """The rows of a line table: the address of each, and the file and line from there on."""
+        least, at = number(table, 0, True)
+        greatest, at = number(table, at, True)
+        line, at = number(table, at)
+        width, file = greatest - least + 1, 1
+        if width <= 0:
+            raise Refusal(CUT)
+        while table[at] != 0:
+            opcode = table[at]
+            at += 1
+            if opcode == 1:
+                file, at = number(table, at)
+                continue
+            if opcode == 3:
+                change, at = number(table, at, True)
+                line += change
+                continue
+            if opcode == 2:
+                advance, at = number(table, at)
+            else:
+                advance, change = divmod(opcode - 4, width)
+                line += least + change
+            address += advance
+            yield address, file & 0xFFFFFFFF, line & 0xFFFFFFFF
+
+    def rows_up_to(self, table, start, high):
+        """The rows below an address, with their answers, and its end."""
+        rows = []
+        for address, file, line in self.rows(table, start):
+            if address >= high:
+                break
+            path = file and self.path(file)
+            rows.append((address, (path, line) if path else None))
+        return rows + [(high, None)]
+
+    def spans(self, first_row):
+        for low, high, start, info in self.functions():
+            table = self.line_table(info)
+            rows = self.rows_up_to(table, start, high) if table else []
+            for row_low, row_high, answer in steps(first_rows(rows) if first_row else rows):
+                if row_high > low:
+                    yield max(low, row_low), row_high, answer
+
+
+def number(table, at, signed=False):
+    """A number in LEB128, which has at most 10 bytes."""
+    return leb(table, at, min(at + 10, len(table)), signed)
+
+
+def first_rows(rows):
+    """Rows that answer at an address with several as the first does, and behind it as the last."""
+    changed = []
+    for address, group in itertools.groupby(rows, key=FIRST):
+        answers = [answer for _, answer in group]
+        changed.append((address, answers[0]))
+        if len(answers) > 1:
+            changed.append((address + 1, answers[-1]))
+    return changed
+
+
+def spans_of(data, first_row=False):
+    """The spans of a GSYM file; with `first_row` as readers up to LLVM 17 answer at an address with several rows: by the first of
+    them there, and by the last behind it."""
+    try:
+        return list(Gsym(data).spans(first_row))
+    except (struct.error, IndexError):
+        raise Refusal(CUT) from None

@@ -1,0 +1,85 @@
+import tempfile
+import unittest
+from unittest import mock
+
+from scripts.table import command
+
+ABOUT = """Writes.
+
+usage: linetab-table MAKER FILE [OPTIONS..]
+
+Makers:
+  gsym            A file
+  gsym-17         Another
+                  file
+  points COMMAND  A program
+
+Options:
+      --dead <ADDRESS>   Leaves out
+                         (llvm-dwarfdump, readelf)
+      --quiet            Prints no notes
+  -V, --version          Prints the version
+
+More.
+"""
+
+
+class Words(unittest.TestCase):
+    def refused(self, *typed):
+        """What is told of words that are refused."""
+        told = []
+        with mock.patch.object(command, "tell", told.append), self.assertRaises(SystemExit) as caught:
+            command.asked_for(list(typed))
+        self.assertEqual(caught.exception.code, 2)
+        return told[0]
+
+    def test_what_is_asked(self):
+        asked = command.asked_for(["readelf", "--dead", "0x0", "-", "--skip-copies"])
+        self.assertEqual((asked.maker, asked.file, asked.dead, asked.skip_copies, asked.base), ("readelf", "-", 0, True, None))
+        asked = command.asked_for(["points", "llvm-symbolizer", "app"])
+        self.assertEqual((asked.command, asked.file), ("llvm-symbolizer", "app"))
+
+    def test_what_is_refused(self):
+        for typed, text in (
+            ([], "one of gsym, gsym-17, breakpad"), (["gdb", "a"], "one of gsym"), (["gsym"], "linetab-table gsym FILE"),
+            (["gsym", "a", "b"], "linetab-table gsym FILE"), (["readelf", "a", "--base", "0x0"], "--base is for breakpad"),
+            (["gsym-17", "a", "--dead", "0x0"], "--dead is for llvm-dwarfdump and readelf"), (["readelf", "a", "--dead", "12"], "12 isn't"),
+            (["points", "gdb", "app"], "COMMAND is an addr2line"),
+        ):
+            self.assertIn(text, self.refused(*typed))
+
+
+class Helps(unittest.TestCase):
+    def test_of_a_maker(self):
+        self.assertEqual(command.help_of(ABOUT, "gsym-17"), "gsym-17         Another\nfile\n\nusage: linetab-table gsym-17 FILE [OPTIONS..]\n\n"
+                         "Options:\n      --quiet            Prints no notes\n")
+        self.assertIn("usage: linetab-table points COMMAND FILE [OPTIONS..]", command.help_of(ABOUT, "points"))
+
+    def test_parts(self):
+        self.assertEqual([left for left, _ in command.part_of(ABOUT, "Makers")], ["gsym", "gsym-17", "points COMMAND"])
+        self.assertTrue(command.is_of("readelf", ["", "(llvm-dwarfdump, readelf)"]))
+        self.assertFalse(command.is_of("gsym", ["", "(llvm-dwarfdump, readelf)"]))
+        self.assertTrue(command.is_of("gsym", ["for all"]))
+
+
+class Tables(unittest.TestCase):
+    def test_of_each_file(self):
+        with tempfile.NamedTemporaryFile() as file:
+            file.write(b"MODULE Linux x86_64 0 app\nFILE 0 /a.c\nFUNC 0 4 0 f\n0 2 1 0\n2 2 1 0\n")
+            file.flush()
+            asked = command.asked_for(["breakpad", file.name, "--base", "0x10"])
+            self.assertEqual(bytes(command.table_for(asked)), b"low,high,path,line\n0x10,0x14,/a.c,1\n")
+
+    def test_columns(self):
+        makers = command.MAKERS
+        self.assertTrue(makers["llvm-dwarfdump"].has_columns(None))
+        self.assertFalse(makers["readelf"].has_columns(None))
+        asked = command.asked_for(["points", "eu-addr2line", "app"])
+        self.assertTrue(makers["points"].has_columns(asked))
+
+    def test_each_maker_has_a_name(self):
+        self.assertEqual(list(command.MAKERS), ["gsym", "gsym-17", "breakpad", "llvm-dwarfdump", "readelf", "points"])
+
+
+if __name__ == "__main__":
+    unittest.main()

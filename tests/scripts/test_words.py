@@ -1,0 +1,116 @@
+import unittest
+
+from scripts.object import words
+from scripts.object.words import Check, Given, Symbolize, Usage, Word
+
+TEXT = """Tells whether
+
+Usage: linetab %s [OPTIONS] <SECTION>%s
+
+Arguments:
+  <SECTION>  The file%s
+
+Options:
+      --all              All
+      --big              Big
+      --quiet            Quiet
+      --line-str <FILE>  Texts
+      --addresses <FILE>  Addresses
+      --op <N>           Operation
+  -h, --help             Print help
+
+More
+"""
+VERIFY = Word("verify", TEXT % ("verify", "", ""))
+TABLE = Word("table", TEXT % ("table", "", ""))
+CHECK = Check(TEXT % ("check", " <TABLE>", "\n  <TABLE>    The table"))
+LOOKUP = Word("lookup", TEXT % ("lookup", " [ADDRESS]...", "\n  [ADDRESS]...  An address"))
+SYMBOLIZE = Symbolize(LOOKUP)
+
+
+class Helps(unittest.TestCase):
+    def test_rows(self):
+        self.assertEqual(words.rows(VERIFY.text, "Options")[:2], [("--all", "All"), ("--big", "Big")])
+        self.assertEqual(words.names_of("-o, --output <FILE>"), ["-o", "--output"])
+
+    def test_what_a_word_takes(self):
+        self.assertEqual([one.takes_many for one in (VERIFY, CHECK, LOOKUP, SYMBOLIZE)], [True, False, False, False])
+        self.assertEqual(CHECK.used(), "linetab-object check [OPTIONS] <FILE> <SYMBOLS>")
+        self.assertEqual(VERIFY.used(), "linetab-object verify [OPTIONS] <FILE>...")
+        self.assertEqual(LOOKUP.taken_by_it(), "one FILE and ADDRESS..")
+
+    def test_help_has_its_own_options_too(self):
+        for word, option in ((VERIFY, "--json"), (CHECK, "--max <N>"), (CHECK, "--json"), (TABLE, "-r, --recursive"), (SYMBOLIZE, "--base <ADDRESS>")):
+            self.assertIn(option, word.help())
+        self.assertNotIn("--json", TABLE.help())
+        self.assertTrue(CHECK.help().endswith("\n\nMore\n"))
+
+    def test_texts_of_the_program(self):
+        self.assertEqual(words.renamed("Usage: linetab check <SECTION> <TABLE> 'linetab'"),
+                         "Usage: linetab-object check <FILE> <SYMBOLS> 'linetab-object'")
+        self.assertEqual(words.without_size("upgrade --address-size <2|4|8> <SECTION>"), "upgrade <SECTION>")
+
+
+class Typed(unittest.TestCase):
+    def test_options_wherever_they_stand(self):
+        given = Given(CHECK, ["--all", "app", "--line-str", "x", "table", "--quiet", "-oout"])
+        self.assertEqual((given.files, given.others), (["app"], ["table"]))
+        self.assertEqual(given.options, [["--all"], ["--line-str", "x"], ["--quiet"]])
+        self.assertEqual(given.own, {"--output": "out"})
+        self.assertEqual(given.words(), ["--all", "--line-str", "x"])
+        self.assertEqual(given.words_of_section(), ["--line-str", "x"])
+        self.assertTrue(given.is_quiet)
+
+    def test_what_stands_behind_two_dashes(self):
+        given = Given(CHECK, ["app", "--", "--all"])
+        self.assertEqual((given.others, given.names, given.behind()), (["--all"], set(), ["--", "--all"]))
+
+    def test_several_files(self):
+        self.assertTrue(Given(VERIFY, ["a", "b"]).is_several)
+        self.assertTrue(Given(VERIFY, ["-r", "a"]).is_several)
+        self.assertFalse(Given(VERIFY, ["a"]).is_several)
+        self.assertFalse(Given(CHECK, ["a", "b"]).is_several)
+
+    def test_names_are_changed(self):
+        given = Given(CHECK, ["app", "--map", "/b=/w", "--map=/bc=/x", "--map", "/e="])
+        spans = [(0, 1, (b"/bc/a", 1)), (1, 2, (b"/e/a", 2)), (2, 3, (b"c", 3))]
+        self.assertEqual([path for _, _, (path, _) in given.mapped(spans)], [b"/wc/a", b"/a", b"c"])
+        plain = Given(CHECK, ["app"])
+        self.assertIs(plain.mapped(spans), spans)
+
+    def test_numbers(self):
+        self.assertEqual(Given(CHECK, ["app", "--base=0x4F"]).base(), 0x4F)
+        self.assertEqual(Given(CHECK, ["app", "--base", "4f"]).base(), 0x4F)
+        self.assertIsNone(Given(CHECK, ["app"]).base())
+        self.assertEqual(Given(CHECK, ["app", "--all", "--max", "07"]).most(), 7)
+        self.assertIsNone(Given(CHECK, ["app", "--all"]).most())
+
+    def test_files_that_are_read(self):
+        self.assertEqual(Given(CHECK, ["app", "t", "--line-str=x", "-o", "y"]).inputs(), ["app", "t", "x"])
+        self.assertEqual(Given(LOOKUP, ["app", "0x0", "--addresses", "-", "--op", "1"]).inputs(), ["app", "-"])
+        self.assertEqual(Given(SYMBOLIZE, ["app"]).inputs(), ["app", "-"])
+
+    def test_what_is_refused(self):
+        cases = [
+            (VERIFY, ["-o"], "-o wants a value"),
+            (VERIFY, ["--recursive=yes"], "--recursive takes no value"),
+            (CHECK, ["--base", "0y"], "--base wants"),
+            (CHECK, ["--map", "x"], "--map wants FROM=TO"),
+            (CHECK, ["--max", "3"], "--max is for check --all"),
+            (CHECK, ["--all", "--max", "0"], "--max wants a number"),
+            (CHECK, ["--all", "--max", "\u0663"], "--max wants a number"),
+            (CHECK, ["-r"], "check takes one FILE and SYMBOLS, and no folders"),
+            (LOOKUP, ["--recursive"], "lookup takes one FILE and ADDRESS.., and no folders"),
+            (TABLE, ["--json"], "table takes FILEs, and no --json"),
+            (SYMBOLIZE, ["--max", "3"], "symbolize takes one FILE, and no --max"),
+        ]
+        for word, typed, text in cases:
+            with self.assertRaisesRegex(Usage, text):
+                Given(word, typed)
+
+    def test_what_the_program_refuses_is_handed_on(self):
+        self.assertEqual(Given(VERIFY, ["--none", "-x"]).words(), ["--none", "-x"])
+
+
+if __name__ == "__main__":
+    unittest.main()
