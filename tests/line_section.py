@@ -472,6 +472,11 @@ def judge_apart(kept):
     return holding
 
 
+def is_full(path):
+    """Whether a path begins with /, with a letter, a colon and a separator, or with two backslashes."""
+    return path[:1] == b"/" or path[:1].isalpha() and path[1:3] in (b":/", b":\\") or path[:2] == b"\\\\"
+
+
 def joined(directory, name):
     if not directory or directory.endswith(b"/"):
         return directory + name
@@ -514,9 +519,9 @@ class Section:
         name = path_text(self.strings, unit.files, entry)
         number = directory_number(unit.files, entry)
         directory = path_text(self.strings, unit.directories, unit.directories.entries[number])
-        if name.startswith(b"/"):
+        if is_full(name):
             return name
-        if number and not directory.startswith(b"/"):
+        if number and not is_full(directory):
             directory = joined(path_text(self.strings, unit.directories, unit.directories.entries[0]), directory)
         return joined(directory, name)
 

@@ -58,6 +58,11 @@ for head in 02000000000000009c00000000000000010000000000000028b52ffd 010000009c0
 done
 printf 'void f(void);\n' >"$work/text"
 notes 'text' 1 "$truncated" '' 'this looks like text; a section is the raw bytes of .debug_line' verify "$work/text"
+symbols='this looks like a symbol file; linetab-object check compares one with a program'
+printf 'MODULE Linux x86_64 0 a\n' >"$work/symbols"
+notes 'a symbol file of Breakpad' 1 "$truncated" '' "$symbols" verify "$work/symbols"
+looks 'a GSYM file' "4d59534701000414$zeros" "$malformed" "$symbols"
+looks 'a big-endian GSYM file' "4753594d00010414$zeros" "$malformed" "$symbols"
 notes 'a program' 1 "$truncated" '' 'this looks like an ELF file; linetab-object takes its sections out, and does the word' \
   check "$program" examples/hello.csv
 input=$program
@@ -116,6 +121,34 @@ notes 'a good section with code at the end' 0 $'yes\n' '' \
 put falls "43000000 $start $header 000902ffffffffffffffff 144b0202 000101"
 notes 'code that passes the end' 1 $'no 31 falls unit 0x0 row 1\n' '' \
   'sequences begin at 0xffffffffffffffff, where linkers leave discarded code (1 of them); --dead 0xffffffffffffffff leaves them out' verify "$work/falls"
+
+# ---- units of other versions, and addresses of another size
+
+put old "31000000 0400${start:4} $header"
+notes 'an older unit' 1 $'no 25 malformed at 0x4: version 4\n' '' \
+  'linetab upgrade SECTION --address-size N writes units of versions 2 to 4 anew in version 5, which the other words read; N is how many bytes an address has: 8 in a 64-bit program, 4 in a 32-bit one' \
+  check "$work/old" examples/hello.csv
+length=$'no 25 malformed at 0x36: extended length\n'
+sets() { # BYTES DIGITS
+  notes "an address of $1 bytes" 1 "$length" '' \
+    "the operation there sets an address of $1 bytes; if linetab upgrade wrote the section, run it with --address-size $1" verify "$work/$1"
+}
+put 4 "3f000000 $start $header 00050200000000 144b0202 000101"
+sets 4
+put 2 "3d000000 $start $header 0003020000 144b0202 000101"
+sets 2
+put 8 "43000000 050004${start:6} $header 0009020000000000000000 144b0202 000101"
+sets 8
+# It follows a unit of the right size, whose bytes aren't counted.
+(bytes "43000000 $start $header 0009020000000000000000 144b0202 000101 3f000000 $start $header 00050200000000 144b0202 000101") >"$work/second"
+notes 'in a second unit' 1 $'no 25 malformed at 0x7d: extended length\n' '' \
+  'the operation there sets an address of 4 bytes; if linetab upgrade wrote the section, run it with --address-size 4' \
+  check "$work/second" examples/hello.csv
+silent 'on standard input' 1 "$length" verify - <"$work/4"
+put six "41000000 $start $header 000702000000000000 144b0202 000101"
+silent 'an address of 6 bytes' 1 "$length" verify "$work/six"
+put end "3b000000 $start $header 00020100 144b0202 000101"
+silent 'another operation' 1 "$length" verify "$work/end"
 
 # ---- copies
 

@@ -1,6 +1,6 @@
 """Finds the definitions that the contract of `lnt_cli::run` leads to for a `check`, name by name, and compares their files with those
 of docs/TRUSTED.md: which they are, that each stands after those that it needs, and how many lines they have, also of a Yes alone, with
-its printed line, and with `--partial`. The same for `upgrade`, for `check --all` and for the whole contract, of whose files the page
+its printed line, and with `--partial`. The same for `upgrade`, for `symbols`, for `check --all` and for the whole contract, of whose files the page
 lists those that aren't above. And looks whether each file of specs/ begins with a sentence that says what it defines, which
 `docs/list definitions` prints."""
 
@@ -37,11 +37,13 @@ UPGRADE = [
     ("Rattle.lnt_cli.specs.Answered", "AnswersUpgrade"),
     ("Rattle.lnt_words.specs.Words", "size_bytes"),
 ]
+SYMBOLS = [ASKED, ("Rattle.lnt_cli.specs.Answered", "AnswersSymbols")]
 COUNTS = r"(\d+) lines of definitions in (\d+) files"
 COUNTS_OF_YES = r"(\d+) lines in (\d+) files for a Yes"
 COUNTS_OF_PRINTED = r"(\d+) in (\d+) with its line"
 COUNTS_OF_PARTIAL = r"(\d+) in (\d+) for one with `--partial`"
 COUNTS_OF_UPGRADE = r"stands on (\d+) lines in (\d+) files, of which (\d+) aren't above"
+COUNTS_OF_SYMBOLS = r"rests on (\d+) lines in (\d+) files, of which (\d+) aren't above"
 COUNTS_OF_ALL = r"leads to (\d+) lines in (\d+) files, of which (\d+) aren't above"
 COUNTS_OF_CONTRACT = r"The whole contract leads to (\d+) lines in (\d+) files"
 WORDS = r"(?:(?:abbrev|unfoldable|opaque|pub|record|data) )+"
@@ -161,7 +163,7 @@ def leads():
         return ["the contract of %s names no %s" % (CONTRACT[1], CLAUSE[1])]
     _, _, named = closure([CLAUSE])
     _, _, of_check = closure(CHECK)
-    needed = CHECK + UPGRADE + ALL
+    needed = CHECK + UPGRADE + SYMBOLS + ALL
     return ["%s doesn't lead to %s" % (CLAUSE[1], name) for module, name in needed if (module, name) not in named] + [
         "nothing that is said of a check leads to %s" % name for module, name in YES + PRINTED + PARTIAL if (module, name) not in of_check
     ]
@@ -189,20 +191,26 @@ def files_in(page, head):
 def main():
     lines, needs, _ = closure(CHECK)
     of_upgrade, upgrade_needs, _ = closure(UPGRADE)
+    of_symbols, symbols_needs, _ = closure(SYMBOLS)
     of_all, all_needs, _ = closure(ALL)
     of_contract, contract_needs, _ = closure(contract())
     with open(os.path.join(TOP, "docs", "TRUSTED.md"), encoding="utf-8") as file:
         page = file.read()
-    listed, of_places, added, others = [files_in(page, head) for head in ("The definitions", "`check --all`", "`upgrade`", "The command")]
-    above = listed + of_places + added
+    heads = "The definitions", "`check --all`", "`upgrade`", "`symbols`", "The command"
+    listed, of_places, added, of_files, others = [files_in(page, head) for head in heads]
+    above = listed + of_places + added + of_files
     passed = sum((above + others).count(name) == 1 for name in of_contract)
     wrong = leads() + misplaced(listed, [], lines, needs) + misplaced(of_places, listed, of_all, all_needs)
-    wrong += misplaced(added, listed + of_places, of_upgrade, upgrade_needs) + misplaced(others, above, of_contract, contract_needs)
+    wrong += misplaced(added, listed + of_places, of_upgrade, upgrade_needs)
+    wrong += misplaced(of_files, listed + of_places + added, of_symbols, symbols_needs)
+    wrong += misplaced(others, above, of_contract, contract_needs)
     wrong += said(page, COUNTS, lines) + said(page, COUNTS_OF_CONTRACT, of_contract)
     for pattern, starts in ((COUNTS_OF_YES, YES), (COUNTS_OF_PRINTED, YES + PRINTED), (COUNTS_OF_PARTIAL, YES + PARTIAL)):
         wrong += said(page, pattern, closure(starts)[0])
     wrong += said(page, COUNTS_OF_ALL, of_all, len(of_all.keys() - lines.keys()))
     wrong += said(page, COUNTS_OF_UPGRADE, of_upgrade, len(of_upgrade.keys() - lines.keys() - of_all.keys()))
+    before = lines.keys() | of_all.keys() | of_upgrade.keys()
+    wrong += said(page, COUNTS_OF_SYMBOLS, of_symbols, len(of_symbols.keys() - before))
     described, unsaid = undescribed()
     for text in ["docs/TRUSTED.md: " + text for text in wrong] + unsaid:
         print("failed: " + text)

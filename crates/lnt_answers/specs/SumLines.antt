@@ -1,7 +1,7 @@
 -- The lines that say whether the files of a good section have their listed MD5 sums (DWARF 5, section 6.2.4.1).
 --     finds       what may be known of the file with a name
 --     old, new    what the writer holds before and afterwards
-use Rattle.std.specs.Prelude.{◌≡◌, ◌≢◌, ℕ, List, ◌⊎◌, [], ◌∷◌, ◌++◌, map, IfSome, IsUtf8, None, Option, Some, codes, decimal}
+use Rattle.std.specs.Prelude.{◌≡◌, ◌≢◌, ℕ, List, ◌⊎◌, [], ◌∷◌, ◌++◌, map, IfSome, IsSome, IsUtf8, None, Option, Some, codes, decimal}
 use Rattle.lnt_answers.specs.declared.digest.Agreement.{Agreement}
 use Rattle.lnt_answers.specs.declared.digest.Agreement.TheVariants.{Same, Differs}
 use Rattle.std.specs.List.{AllByRecursion, flat_map}
@@ -35,6 +35,14 @@ listed_in index unit = lists_below (listed_at index unit) (file_count_in index u
 
 abbrev pub listed_files : Indexed → List (ℕ × ℕ)
 listed_files index = flat_map (listed_in index) index.units
+
+-- The file with this name may be opened: it is the full path of a file with a listed sum, and isn't `-`.
+pub record IsListedPath (index : Indexed) (name : List ℕ) : Type 0 where
+  pub unit : ℕ
+  pub file : ℕ
+  pub listed : IsSome (file_sum_in index unit file)
+  pub path : path_or_empty (file_path_in index unit file) ≡ name
+  pub named : name ≢ codes "-"
 
 -- ---- the finding for one file
 

@@ -12,7 +12,7 @@ ghost use Rattle.lnt_io.specs.Prefixes.{AppendsPrefix, HasBegun};
 ghost use Rattle.lnt_io.specs.IoStops.{IsPrinting};
 ghost use Rattle.lnt_spans.specs.declared.position.Position.{Position as SpecPosition};
 ghost use Rattle.lnt_spans.specs.AnyStretches.{Stretch};
-ghost use Rattle.lnt_io.specs.Stopping.{CountsFailure};
+ghost use Rattle.lnt_io.specs.Stopping.{CountsFailure, IsTooLongOn};
 
 use crate::differences::print_differences;
 use crate::report::{CheckLine, Report, status_of};
@@ -48,8 +48,8 @@ pub enum Stretches {
 /// those stretches count at which the table answers, and a second line after `yes` says at how many of the section's addresses it
 /// does; if these are too few, the line with number 46 says so instead of both.
 ///
-/// The result says which of these was printed. Stops with `Read` only if the source failed, with `TooLong` if the source has
-/// more bytes than it may give, with `Write` if the writer failed, and with `Memory`. If it stops, nothing has been written,
+/// The result says which of these was printed. Stops with `Read` only if the source failed, with `TooLong` only if the source
+/// has more bytes than it may give, with `Write` if the writer failed, and with `Memory`. If it stops, nothing has been written,
 /// or a prefix of these lines. The caller ensures that the number of the source's failures is below `u64::MAX`.
 ///
 /// Never inlined: its frame is large, the stack is short, and the frame of its caller shouldn't contain it.
@@ -65,6 +65,7 @@ pub fn print_stretches<T: Source, W: Write>(
     ensures printed { IfOk result (AreStretchesOfIndex report index.now (T.remaining table.old) (W.contents out.old) (W.contents out.new)) }
     ensures faulty { IfOk result (λ found. IsFaultPrinted found (W.contents out.old) (W.contents out.new)) }
     ensures failures { CountsFailure ⟦<T as Source>⟧ table.old table.new result IoStop.Read }
+    ensures too_long { IsTooLongOn ⟦<T as Source>⟧ table.old table.new result IoStop.TooLong }
     ensures begun { OnErr result (BeginsStretches report index.now (T.remaining table.old) (W.contents out.old) (W.contents out.new)) }
 {
     match differences_any(alloc, table, index) {

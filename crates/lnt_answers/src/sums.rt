@@ -1,12 +1,12 @@
 //! Prints whether files have the MD5 sums that are listed for them.
-ghost use Rattle.std.specs.Prelude.{◌≡◌, ◌↔◌, ◌<◌, ◌++◌, IfErr, IfOk, IsSome, IsTrue, OnErr, OnOk, codes, Any};
-ghost use Rattle.lnt_io.specs.Files.{FindsNoMore};
+ghost use Rattle.std.specs.Prelude.{◌≡◌, ◌≢◌, ◌↔◌, ◌<◌, ◌++◌, IfErr, IfOk, IsSome, IsTrue, OnErr, OnOk, codes, Any};
+ghost use Rattle.lnt_io.specs.Files.{FindsNoMore, OpensOnly};
 ghost use Rattle.lnt_io.specs.IoStops.{IsPrinting};
 ghost use Rattle.lnt_lines.specs.Indexed.{file_count_in, file_sum_in};
 ghost use Rattle.lnt_text.specs.Texts.{quoted_text};
 ghost use Rattle.lnt_answers.specs.SumLines.{AreSumsBegun, AreSumsPrinted, IsTrueOfFile, both, found_status};
 ghost use Rattle.lnt_answers.specs.SumLines.{found_text, head_text, listed_at};
-ghost use Rattle.lnt_answers.specs.SumLines.{listed_files, listed_in};
+ghost use Rattle.lnt_answers.specs.SumLines.{IsListedPath, listed_files, listed_in};
 
 use crate::display::put_text;
 use crate::files::file_path;
@@ -22,7 +22,7 @@ use std::str;
 /// `unit U file F same "PATH"` if the bytes that the opener gives for its path have this sum. Otherwise it has `differs SUM`,
 /// with the sum that they have, or `unreadable` instead of `same`. A file is unreadable if it can't be opened or read, has
 /// more than 2^40 bytes, has a path that isn't UTF-8, or isn't a regular file, such as a pipe, a device or a folder. These are
-/// never read, nor is a file named `-`.
+/// never read, nor is a file named `-`: no file is opened but those at a listed path that isn't `-` (`IsListedPath`).
 ///
 /// Returns `Done` if all of them have their sums, and `No` if one has another sum or can't be read. Stops with `Write` if
 /// the writer failed, and with `Memory`. If it stops, a prefix of lines that are true of the files has been written, and
@@ -38,6 +38,7 @@ pub fn print_sums<O: Files, W: Write>(
         (W.contents out.old) (W.contents out.new) status) }
     ensures begun { OnErr result (AreSumsBegun (O.finds opener.old) index.now (listed_files index.now)
         (W.contents out.old) (W.contents out.new)) }
+    ensures opened { OpensOnly (IsListedPath index.now) (O.opens opener.old) (O.opens opener.new) }
 {
     let mut status = Status::Done;
     let mut room = Vec::new(alloc);
@@ -63,6 +64,7 @@ fn print_unit_sums<O: Files, W: Write>(
         (W.contents out.old) (W.contents out.new) status) }
     ensures begun { OnErr result (AreSumsBegun (O.finds opener.old) index.now (listed_in index.now unit)
         (W.contents out.old) (W.contents out.new)) }
+    ensures opened { OpensOnly (IsListedPath index.now) (O.opens opener.old) (O.opens opener.new) }
 {
     let mut status = Status::Done;
     for file in 0..index.file_count(unit) {
@@ -90,6 +92,7 @@ fn print_sum<O: Files, W: Write>(
         (W.contents out.old) (W.contents out.new) status) }
     ensures begun { OnErr result (AreSumsBegun (O.finds opener.old) index.now (listed_at index.now unit file)
         (W.contents out.old) (W.contents out.new)) }
+    ensures opened { OpensOnly (IsListedPath index.now) (O.opens opener.old) (O.opens opener.new) }
 {
     let Some(listed) = index.listed(unit, file) else {
         return Ok(Status::Done);
@@ -106,6 +109,7 @@ fn print_sum<O: Files, W: Write>(
 fn found_of<O: Files>(path: &[u8], listed: &[u8; 16], opener: &mut O) -> Option<Agreement>
     ensures later { FindsNoMore (O.finds opener.old) (O.finds opener.new) }
     ensures found { IsTrueOfFile (O.finds opener.old) path.now listed.now result }
+    ensures opened { OpensOnly (λ name. (path.now ≡ name) × (name ≢ codes "-")) (O.opens opener.old) (O.opens opener.new) }
 {
     let name = str::from_utf8(path).ok()?;
     if name == "-" || !opener.is_regular(name) {

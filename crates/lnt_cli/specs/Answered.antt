@@ -17,13 +17,14 @@ use Rattle.lnt_words.specs.declared.request.Judging.{Judging}
 use Rattle.lnt_words.specs.declared.request.Question.{Question}
 use Rattle.lnt_words.specs.declared.request.Reading.{Reading}
 use Rattle.lnt_words.specs.declared.request.Request.{Request}
-use Rattle.lnt_words.specs.declared.request.Request.TheVariants.{Help, Read, Upgrade, Judge, JudgeWith}
+use Rattle.lnt_words.specs.declared.request.Request.TheVariants.{Help, Read, Upgrade, Symbols, Judge, JudgeWith}
 use Rattle.lnt_words.specs.declared.request.Upgrading.{Upgrading}
 use Rattle.lnt_table.specs.declared.within.CheckedWithin.{CheckedWithin}
 use Rattle.lnt_table.specs.declared.within.Scope.{Scope}
 use Rattle.lnt_table.specs.AnyVersion.{IsOfScope, IsTrueOfSectionWithin, IsTrueWithin, scope_in}
 use Rattle.lnt_answers.specs.Verdicts.{checked_line, checked_status}
 use Rattle.lnt_words.specs.Words.{size_bytes}
+use Rattle.lnt_symbols.specs.SymbolTables.{HasPrinted, symbol_answers}
 use Rattle.lnt_dump.specs.Printed.{IsUpgradePrinted}
 use Rattle.lnt_cli.specs.Questions.{AnswersGood, AnswersGoodFile, AnswersJudged, AnswersReading}
 
@@ -123,6 +124,13 @@ abbrev pub AnswersUpgrade : (List ℕ → FileState → Type 0) → Upgrading �
 AnswersUpgrade finds from old new status =
     IsOfUpgrade finds from (λ bytes text. IsUpgradePrinted from.order (size_bytes from.address_size) bytes text old new status)
 
+-- ---- symbol files
+
+-- The table of the answers of the symbol file with this name was written, if its address 0 is loaded at this base, or its first fault.
+abbrev pub AnswersSymbols : (List ℕ → FileState → Type 0) → List ℕ → ℕ → Option (List ℕ) → Option (List ℕ) → Status → Type 0
+AnswersSymbols finds file base old new status =
+    IsOfBytes finds file (λ known. IfSome known (λ bytes. HasPrinted (symbol_answers base bytes) old new status))
+
 -- ---- requests
 
 -- The answer to a request.
@@ -130,5 +138,6 @@ abbrev pub IsAnswered : (List ℕ → FileState → Type 0) → Request → Opti
 IsAnswered finds (Help text) old new status = Appends old new (string_bytes text) × (status ≡ Done)
 IsAnswered finds (Read section order reading) old new status = AnswersRead finds section.now order reading old new status
 IsAnswered finds (Upgrade from) old new status = AnswersUpgrade finds from old new status
+IsAnswered finds (Symbols file base) old new status = AnswersSymbols finds file.now base old new status
 IsAnswered finds (Judge from question) old new status = AnswersQuestion finds from question old new status
 IsAnswered finds (JudgeWith from file question) old new status = AnswersFile finds from file.now question old new status

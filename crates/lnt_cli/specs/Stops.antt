@@ -1,5 +1,5 @@
 -- How a run was stopped, and the files that a request names.
-use Rattle.std.specs.Prelude.{◌≡◌, ◌≢◌, ◌⊎◌, ℕ, IsErrAnd, List, Option, Result, Some, string_bytes, option_copied, false}
+use Rattle.std.specs.Prelude.{◌≡◌, ◌≢◌, ◌⊎◌, ℕ, IfSome, IsErrAnd, List, Option, Result, Some, string_bytes, option_copied, false}
 use Rattle.lnt_io.specs.Files.{FileState, Readable, RefusesOnly}
 use Rattle.lnt_io.specs.declared.io_stop.IoStop.{IoStop}
 use Rattle.lnt_io.specs.declared.io_stop.IoStop.TheVariants as io_stop
@@ -9,7 +9,7 @@ use Rattle.lnt_words.specs.declared.request.Judging.{Judging}
 use Rattle.lnt_words.specs.declared.request.Question.{Question}
 use Rattle.lnt_words.specs.declared.request.Question.TheVariants.{Md5}
 use Rattle.lnt_words.specs.declared.request.Request.{Request}
-use Rattle.lnt_words.specs.declared.request.Request.TheVariants.{Help, Read as ReadSection, Upgrade, Judge, JudgeWith}
+use Rattle.lnt_words.specs.declared.request.Request.TheVariants.{Help, Read as ReadSection, Upgrade, Symbols, Judge, JudgeWith}
 use Rattle.lnt_words.specs.declared.request.Upgrading.{Upgrading}
 use Rattle.lnt_words.specs.declared.stop.WordsStop.{WordsStop}
 use Rattle.lnt_words.specs.declared.stop.WordsStop.TheVariants as words
@@ -25,6 +25,7 @@ use Rattle.lnt_table.specs.AnyVersion.{scope_in}
 use Rattle.lnt_words.specs.Words.{size_bytes}
 use Rattle.lnt_words.specs.declared.request.Reading.{Reading}
 use Rattle.lnt_dump.specs.Printed.{IsUpgradeBegun}
+use Rattle.lnt_symbols.specs.SymbolTables.{BeginsPrinted, symbol_answers}
 use Rattle.lnt_cli.specs.Answered.{IsChecked, IsJudgedSo, IsOfBytes, IsOfFile, IsOfSection, IsOfUpgrade}
 use Rattle.lnt_cli.specs.Questions.{BeginsGood, BeginsGoodFile, BeginsJudged, BeginsReading}
 
@@ -67,6 +68,7 @@ abbrev pub IsFileIn : Request → List ℕ → Type 0
 IsFileIn (Help text) name = ⊥
 IsFileIn (ReadSection section order reading) name = section.now ≡ name
 IsFileIn (Upgrade from) name = IsFileOfUpgrade from name
+IsFileIn (Symbols file base) name = file.now ≡ name
 IsFileIn (Judge from question) name = IsFileOf from name
 IsFileIn (JudgeWith from file question) name = IsFileOfBoth from file.now name
 
@@ -147,6 +149,13 @@ abbrev pub StopsUpgrade : (List ℕ → FileState → Type 0) → Upgrading → 
 StopsUpgrade finds from old new =
     IsOfUpgrade finds from (λ bytes text. IsUpgradeBegun from.order (size_bytes from.address_size) bytes text old new)
 
+-- ---- symbol files
+
+-- A prefix of the table of the symbol file with this name, or of the line of its first fault, was written.
+abbrev pub StopsSymbols : (List ℕ → FileState → Type 0) → List ℕ → ℕ → Option (List ℕ) → Option (List ℕ) → Type 0
+StopsSymbols finds file base old new =
+    IsOfBytes finds file (λ known. IfSome known (λ bytes. BeginsPrinted (symbol_answers base bytes) old new))
+
 -- ---- requests
 
 -- What was written if the answer to this request was stopped.
@@ -154,5 +163,6 @@ abbrev pub IsStopped : (List ℕ → FileState → Type 0) → Request → Optio
 IsStopped finds (Help text) old new = AppendsPrefix old new (string_bytes text)
 IsStopped finds (ReadSection section order reading) old new = Keeps old new ⊎ StopsRead finds section.now order reading old new
 IsStopped finds (Upgrade from) old new = Keeps old new ⊎ StopsUpgrade finds from old new
+IsStopped finds (Symbols file base) old new = Keeps old new ⊎ StopsSymbols finds file.now base old new
 IsStopped finds (Judge from question) old new = Keeps old new ⊎ BeginsQuestion finds from question old new
 IsStopped finds (JudgeWith from file question) old new = Keeps old new ⊎ BeginsFile finds from file.now question old new

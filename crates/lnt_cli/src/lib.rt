@@ -12,6 +12,7 @@ mod program;
 mod question;
 mod reading;
 mod stop;
+mod symbols;
 
 // Running the command.
 pub use program::{run, run_with_notes};

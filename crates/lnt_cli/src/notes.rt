@@ -9,8 +9,8 @@ use lnt_compare::Compared;
 use lnt_io::{Files, Status};
 use lnt_lines::No;
 use lnt_notes::{
-    Columns, Given, Hints, Seen, note_agreed, note_bad, note_good, note_refused, note_table,
-    print_note,
+    Columns, Given, Hints, Seen, note_agreed, note_bad, note_good, note_no_symbols, note_refused,
+    note_table, print_note,
 };
 use lnt_records::TableFault;
 use lnt_table::{CheckedWithin, OfKind, Scope, TableNo, Verdict};
@@ -167,6 +167,12 @@ fn note_answer<O: Files, N: Write>(
         Request::Read { order, .. } | Request::Upgrade(Upgrading { order, .. }) => {
             if answered.status == Status::No {
                 let _ = note_refused(seen, *order, notes);
+            }
+            return;
+        }
+        Request::Symbols { .. } => {
+            if answered.status == Status::No {
+                let _ = note_no_symbols(seen, notes);
             }
             return;
         }

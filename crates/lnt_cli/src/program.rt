@@ -9,6 +9,7 @@ use crate::notes::{Answered, note_word, print_notes};
 use crate::question::{answer_file, answer_question};
 use crate::reading::{read_section, upgrade_section};
 use crate::stop::{CliStop, FileStop};
+use crate::symbols::read_symbols;
 use lnt_io::{Files, Status, write_whole};
 use lnt_notes::Seen;
 use lnt_words::{Asked, Request, request_of};
@@ -78,10 +79,10 @@ pub fn run_with_notes<O: Files, W: Write, N: Write>(
 /// table answers otherwise, a line is written for each of them, or `yes` if there is none (`AnswersFile`).
 ///
 /// For a question about a section that isn't good, the line of a true reason is written, and it returns `No`; for one about a
-/// good section, what the section's rows and headers say (`AnswersQuestion`). For a conversion, the converted section is
-/// written, or the line that says why there is none; for a list of units, the lines of the section's frames and of its first
-/// fault; for a dump, those of its units and of its first fault (`AnswersRead`). For the lines of a file, a line is written for
-/// each of them (`AnswersFile`).
+/// good section, what the section's rows and headers say (`AnswersQuestion`). For a conversion, the converted section is written,
+/// or the line that says why there is none; for a list of units, the lines of the section's frames and of its first fault; for a
+/// dump, those of its units and of its first fault (`AnswersRead`); for a symbol file, its address table, or the line of its
+/// first fault (`AnswersSymbols`). For the lines of a file, a line is written for each of them (`AnswersFile`).
 ///
 /// If it stops, a prefix of an answer has been written, and nothing else (`IsStopped`). It stops with `Read` or `TooLong` for a
 /// file that the request names (`IsFileIn`); with `Write` if `out` failed; and with `Memory`. If the opener refuses a file, it stops
@@ -135,6 +136,7 @@ fn answer_request<'r, O: Files, W: Write>(
             reading,
         } => read_section(alloc, section, *order, *reading, opener, seen, out),
         Request::Upgrade(from) => upgrade_section(alloc, from, opener, seen, out),
+        Request::Symbols { file, base } => read_symbols(alloc, file, *base, opener, seen, out),
         Request::Judge { from, question } => {
             answer_question(alloc, from, question, opener, seen, out)
         }

@@ -45,7 +45,8 @@ where_so kind f g bytes P Q step h =
     record { version = h.version; table = h.table; is_table = h.is_table; so = step h.version (answer_held kind.spans h.table) h.so }
 
 -- what follows from both of two such facts, as bytes are one table
-pub where_both : {V X Y D : Type 0} (kind : TableKind V X Y D) → FormatLaws kind.format → (bytes : List ℕ) (section : V → Position → Option Y)
+pub where_both : {V X Y D : Type 0} (kind : TableKind V X Y D) → FormatLaws kind.format
+    → (bytes : List ℕ) (section : V → Position → Option Y)
     (P Q : (Position → Option Y) → (Position → Option Y) → Type 0) (R : Type 0)
     → ((by_section by_table : Position → Option Y) → P by_section by_table → Q by_section by_table → R)
     → IsTableWhere kind.format (answer_held kind.spans) section bytes P

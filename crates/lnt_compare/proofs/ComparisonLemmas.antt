@@ -110,10 +110,12 @@ order_refused kind laws version at table records fields span t ends says not =
 past_merged : {S D M V X Y : Type 0} (to_come : S → List Span → Type 0) (kind : TableKind V X Y D) (tell : Answer → Y)
     (told : Span → X) → ToldLaws kind tell told → (spans : S) (comparison : Comparison S D M) (at : Position)
     (answered : ℕ) (passed list : List Span) → IsPast to_come spans comparison at answered → to_come spans list
-    → AreInOrder (passed ++ list) → at ≡ end_of passed → answered ≡ addresses_of passed → HasMerged to_come tell kind.stretch comparison.merge (passed ++ list) (answer_held kind.spans (map told passed))
+    → AreInOrder (passed ++ list) → at ≡ end_of passed → answered ≡ addresses_of passed
+    → HasMerged to_come tell kind.stretch comparison.merge (passed ++ list) (answer_held kind.spans (map told passed))
 past_merged to_come kind tell told laws spans comparison at answered passed list past coming order ends counted =
     merged_past to_come tell kind.stretch comparison.merge (passed ++ list) (answer_held kind.spans (map told passed)) past.gap past.mistake
-    past.missed (past.answered_is ∙ counted ∙ sym (addresses_of_spans passed (prefix_in_order number_spans passed list order)) ∙ sym told_some)
+    past.missed
+    (past.answered_is ∙ counted ∙ sym (addresses_of_spans passed (prefix_in_order number_spans passed list order)) ∙ sym told_some)
     (λ p h. laws.answers passed p ∙ ap (option_map tell) (none p (subst (λ (q : Position). IsAtMost q p) is h)))
     (λ p h. ap (option_map tell) (answer_below passed list p order (subst (λ (q : Position). IsBelow p q) is h))
     ∙ sym (laws.answers passed p))
@@ -139,14 +141,16 @@ past_merged to_come kind tell told laws spans comparison at answered passed list
 pub judges_past : {S D M V X Y : Type 0} (to_come : S → List Span → Type 0) (kind : TableKind V X Y D) (tell : Answer → Y)
     (told : Span → X) → ToldLaws kind tell told → (version : V) (spans : S) (comparison : Comparison S D M)
     (at : Position) (answered : ℕ) (passed list : List Span) (records : List Fields) → IsPast to_come spans comparison at answered
-    → to_come spans list → AreInOrder (passed ++ list) → at ≡ end_of passed → answered ≡ addresses_of passed → AllZip (kind.format.Says version) records (map told passed)
+    → to_come spans list → AreInOrder (passed ++ list) → at ≡ end_of passed → answered ≡ addresses_of passed
+    → AllZip (kind.format.Says version) records (map told passed)
     → Judges to_come kind tell version comparison (passed ++ list) (kind.format.names version ∷ records)
-judges_past to_come kind tell told laws version spans comparison at answered passed list records past coming order ends counted each = record {
-  table = map told passed;
-  is_table = (refl, record { each = each; in_order = laws.order passed (prefix_in_order number_spans passed list order) });
-  at = past.at_is ∙ ends ∙ sym (laws.ends passed);
-  merged = past_merged to_come kind tell told laws spans comparison at answered passed list past coming order ends counted;
-}
+judges_past to_come kind tell told laws version spans comparison at answered passed list records past coming order ends counted
+    each = record {
+      table = map told passed;
+      is_table = (refl, record { each = each; in_order = laws.order passed (prefix_in_order number_spans passed list order) });
+      at = past.at_is ∙ ends ∙ sym (laws.ends passed);
+      merged = past_merged to_come kind tell told laws spans comparison at answered passed list past coming order ends counted;
+    }
 
 -- after the header alone
 pub judges_none : {S D M V X Y : Type 0} (to_come : S → List Span → Type 0) (kind : TableKind V X Y D) (tell : Answer → Y)
@@ -160,7 +164,8 @@ pub passed_past : {S D M V X Y : Type 0} (to_come : S → List Span → Type 0) 
     (tell : Answer → Y) (told : Span → X) → ToldLaws kind tell told → (version : V) (spans : S)
     (comparison : Comparison S D M) (list table : List Span) (text : List ℕ) (count : ℕ) (at : Position) (answered : ℕ)
     → IsPast to_come spans comparison at answered → AreLinesOf kind.format plain told version text table count at
-    → LeaveOff tell (to_come spans) list table → answered ≡ addresses_of table → HasPassed to_come kind plain tell version comparison list text count
+    → LeaveOff tell (to_come spans) list table → answered ≡ addresses_of table
+    → HasPassed to_come kind plain tell version comparison list text count
 passed_past to_come kind plain tell told laws version spans comparison list table text count at answered past lines off counted = record {
   records = lines.lines.records;
   count = lines.lines.count_is;

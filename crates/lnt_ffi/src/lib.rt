@@ -25,7 +25,7 @@ pub use flat::{FlatAnswer, FlatSpan};
 pub use indexed::linetab_lookup_indexed;
 pub use indexing::linetab_index;
 pub use judging::linetab_verify;
-pub use looking::linetab_lookup;
+pub use looking::{linetab_lookup, lookup_counted};
 pub use section::FlatSection;
 pub use unit::{FlatUnit, linetab_path, linetab_units};
 pub use verdict::FlatVerdict;

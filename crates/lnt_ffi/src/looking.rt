@@ -11,7 +11,7 @@ use lnt_spans::{Position, Probes, Side, probe};
 ///
 /// It takes no memory, calls nothing, and writes nothing but the answer, so it may run in any thread and in a signal
 /// handler. It always returns, whatever the spans are; of spans out of order it says nothing. It compares the position
-/// with at most as many spans as their number has binary digits: `held` counts them.
+/// with at most as many spans as their number has binary digits, since it is one call of `lookup_counted`.
 #[unsafe(no_mangle)]
 pub extern "C" fn linetab_lookup(
     spans: &[FlatSpan],
@@ -24,7 +24,7 @@ pub extern "C" fn linetab_lookup(
         (span_answer (map span_of spans.now) (record { address = address; op = op }) ≡ None) }
     ensures unchanged { result ≡ false → answer.new ≡ answer.old }
 {
-    match held(spans, Position { address, op }, &mut Probes::new()) {
+    match lookup_counted(spans, Position { address, op }, &mut Probes::new()) {
         Some(found) => {
             *answer = *found;
             true
@@ -33,10 +33,12 @@ pub extern "C" fn linetab_lookup(
     }
 }
 
-// What the span answers that holds the position, or None where no span does. Whatever the spans are, `probes` rises by the
-// comparisons, which are at most as many as their number has binary digits.
+/// What spans in order, as `linetab_verify` gives them, answer at a position, or None where no span holds it. It takes no memory.
+///
+/// Whatever the spans are, `probes` rises by the number of those with which the position is compared. They are at most as many as
+/// the number of spans has binary digits. The caller makes sure that `probes` is at most 2^63.
 #[inline(always)]
-fn held<'a>(
+pub fn lookup_counted<'a>(
     spans: &'a [FlatSpan],
     position: Position,
     probes: &mut Probes,

@@ -1,7 +1,8 @@
 //! The paths of the files of a header (DWARF 5, section 6.2.4.1).
-ghost use Rattle.std.specs.Prelude.{◌≡◌, ◌≤◌, ◌++◌, length, take, drop, OnOk, IsSome, Some, option_map};
+ghost use Rattle.std.specs.Prelude.{◌≡◌, ◌≤◌, ◌++◌, length, take, drop, slice_get, OnOk, IsSome, Some, option_map};
 ghost use Rattle.lnt_header.specs.declared.header.Entry.{Entry};
-ghost use Rattle.lnt_files.specs.Paths.{begins_with_slash, ends_with_slash, join, directory_text, directory_path, file_path};
+ghost use Rattle.lnt_files.specs.Paths.{is_full, is_byte, ends_with_slash, join};
+ghost use Rattle.lnt_files.specs.Paths.{directory_text, directory_path, file_path, begins_with_drive, begins_with_machine};
 ghost use Rattle.lnt_files.specs.Stepping.{whole_path};
 ghost use Rattle.lnt_files.specs.Walks.{Says};
 
@@ -30,7 +31,7 @@ fn pieces_of<'s>(
         → option_map whole_path result ≡ file_path strings.entry.line.now strings.entry.general.now header.entry.now entry }
 {
     let name = file.path_text(strings)?;
-    if begins_with_slash(name) {
+    if is_full(name) {
         return Some(Pieces {
             first: &[],
             directory: &[],
@@ -55,7 +56,7 @@ fn directory_pieces<'s>(
         ≡ directory_path strings.entry.line.now strings.entry.general.now header.entry.now number }
 {
     let directory = directory_text(header, strings, number)?;
-    if number == 0 || begins_with_slash(directory) {
+    if number == 0 || is_full(directory) {
         return Some((&[], directory));
     }
     let first = directory_text(header, strings, 0)?;
@@ -75,11 +76,34 @@ fn directory_text<'s>(
     entry_at(header.directories(), number)?.path_text(strings)
 }
 
-// Whether the path begins with `/`.
-fn begins_with_slash(path: &[u8]) -> bool
-    ensures { result ≡ begins_with_slash path.now }
+// Whether the path is a full one, of POSIX or of Windows.
+fn is_full(path: &[u8]) -> bool
+    ensures { result ≡ is_full path.now }
 {
-    matches!(path.first(), Some(b'/'))
+    has_at(path, 0, b'/') || begins_with_drive(path) || begins_with_machine(path)
+}
+
+// Whether the path begins with a letter, a colon and a separator.
+fn begins_with_drive(path: &[u8]) -> bool
+    ensures { result ≡ begins_with_drive path.now }
+{
+    path.first().is_some_and(|byte| byte.is_ascii_alphabetic())
+        && has_at(path, 1, b':')
+        && (has_at(path, 2, b'/') || has_at(path, 2, b'\\'))
+}
+
+// Whether the path begins with two backslashes.
+fn begins_with_machine(path: &[u8]) -> bool
+    ensures { result ≡ begins_with_machine path.now }
+{
+    has_at(path, 0, b'\\') && has_at(path, 1, b'\\')
+}
+
+// Whether the path has this byte at this index.
+fn has_at(path: &[u8], index: usize, byte: u8) -> bool
+    ensures { result ≡ is_byte byte (slice_get path.now index) }
+{
+    path.get(index).is_some_and(|at| *at == byte)
 }
 
 fn ends_with_slash(path: &[u8]) -> bool

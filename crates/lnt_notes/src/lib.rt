@@ -1,8 +1,8 @@
 //! Notes: advice for the user beside an answer. They don't change the answer.
 //!
 //! A [`WatchedReader`] keeps the first bytes of a section for them. [`note_bad`], [`note_good`], [`note_agreed`],
-//! [`note_refused`] and [`note_table`] print the notes to an answer. Some notes need a file to be read again. That is done only
-//! if the answer makes such a note likely, and only for files that can be read again.
+//! [`note_refused`], [`note_no_symbols`] and [`note_table`] print the notes to an answer. Some notes need a file to be read again.
+//! That is done only if the answer makes such a note likely, and only for files that can be read again.
 #![tactic(auto)]
 
 mod ends;
@@ -12,10 +12,12 @@ mod note;
 mod records;
 mod survey;
 mod texts;
+mod units;
 mod watched;
 
 pub use note::{
-    Given, Hints, hints_of, note_agreed, note_bad, note_good, note_refused, note_table, print_note,
+    Given, Hints, hints_of, note_agreed, note_bad, note_good, note_no_symbols, note_refused,
+    note_table, print_note,
 };
 pub use records::Columns;
 pub use watched::{Seen, WatchedReader};

@@ -27,7 +27,7 @@ pub(crate) fn look_of(seen: &Seen, order: Order) -> Option<Look> {
 }
 
 // The kind of file that begins with these bytes, if it is a known one.
-fn file_look(head: &[u8]) -> Option<Look> {
+pub(crate) fn file_look(head: &[u8]) -> Option<Look> {
     match head {
         [0x7f, b'E', b'L', b'F', ..] => Some(Look::Elf),
         [b'M', b'Z', ..] => Some(Look::Pe),
@@ -36,6 +36,9 @@ fn file_look(head: &[u8]) -> Option<Look> {
         | [0xca, 0xfe, 0xba, 0xbe, ..] => Some(Look::MachO),
         [0x1f, 0x8b, ..] => Some(Look::Gzip),
         [0x28, 0xb5, 0x2f, 0xfd, ..] => Some(Look::Zstd),
+        [b'M', b'O', b'D', b'U', b'L', b'E', b' ', ..]
+        | [b'M', b'Y', b'S', b'G', ..]
+        | [b'G', b'S', b'Y', b'M', ..] => Some(Look::Symbols),
         _ => None,
     }
 }

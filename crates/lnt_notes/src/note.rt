@@ -8,11 +8,12 @@ ghost use Rattle.lnt_lines.specs.Indexed.{OfUnits};
 ghost use Rattle.lnt_notes.specs.Notes.{AddsNotes};
 
 use crate::ends::end_alike;
-use crate::look::look_of;
+use crate::look::{file_look, look_of};
 use crate::markers::{GREATEST, may_be_marker};
 use crate::records::{Columns, column_at, line_after};
 use crate::survey::{Survey, survey_of};
 use crate::texts::strings_of;
+use crate::units::address_bytes;
 use crate::watched::Seen;
 use lnt_header::EntryTable;
 use lnt_io::{Files, source_of};
@@ -20,7 +21,7 @@ use lnt_lines::{Index, No};
 use lnt_records::TableFault;
 use lnt_sequences::SeqId;
 use lnt_spans::{Position, Probes, SpanSource};
-use lnt_text::{Note, RecordRule, StringSection};
+use lnt_text::{Look, Note, RecordRule, StringSection};
 use lnt_wire::{Order, Reason};
 use std::alloc::Global;
 use std::io::{self, Write};
@@ -112,6 +113,15 @@ pub fn note_refused<N: Write>(seen: &Seen, order: Order, notes: &mut N) -> io::R
     print_any(look_of(seen, order).map(Note::NotRaw), notes)
 }
 
+/// Prints the note to a file with a fault that was read as a symbol file: what it looks like, if it looks like another kind of file.
+/// It fails only if the writer does; then a prefix of the note may be written.
+pub fn note_no_symbols<N: Write>(seen: &Seen, notes: &mut N) -> io::Result<()>
+    ensures { OnOk result (AddsNotes (N.contents notes.old) (N.contents notes.new)) }
+{
+    let other = file_look(seen.head()).filter(|look| !matches!(look, Look::Symbols));
+    print_any(other.map(Note::NotRaw), notes)
+}
+
 /// Prints the notes to the reason why a section isn't good. It fails only if the writer does; then a prefix of these notes
 /// may be written.
 #[tactic(auto, using(crate::proofs::NoteLemmas::noted_after))]
@@ -128,6 +138,7 @@ pub fn note_bad<O: Files, N: Write>(
     match *no {
         No::Malformed(fault) => match fault.reason {
             Reason::VersionNotFive(2..=4) => print_note(Note::Older, notes),
+            Reason::ExtendedLength => note_length(alloc, fault.place, seen, given, opener, notes),
             _ => note_refused(seen, given.order, notes),
         },
         No::StringOutside(unit, which, _) => {
@@ -145,6 +156,35 @@ pub fn note_bad<O: Files, N: Write>(
         }
         _ => Ok(()),
     }
+}
+
+// Prints the note to an extended operation whose length, at this place, is wrong: how many bytes its address has if it sets one, and
+// else what the file looks like.
+fn note_length<O: Files, N: Write>(
+    alloc: Global,
+    place: u64,
+    seen: &Seen,
+    given: &Given<'_>,
+    opener: &O,
+    notes: &mut N,
+) -> io::Result<()>
+    ensures { OnOk result (AddsNotes (N.contents notes.old) (N.contents notes.new)) }
+{
+    match address_again(alloc, place, given, opener) {
+        Some(count) => print_note(Note::AddressBytes(count), notes),
+        None => note_refused(seen, given.order, notes),
+    }
+}
+
+fn address_again<O: Files>(
+    alloc: Global,
+    place: u64,
+    given: &Given<'_>,
+    opener: &O,
+) -> Option<u64> {
+    let reader = opener.reader_again(given.section)?;
+    let mut source = source_of(alloc, reader).ok()?;
+    address_bytes(alloc, &mut source, given.order, place)
 }
 
 /// Prints the notes to a good section. It fails only if the writer does; then a prefix of these notes may be written.

@@ -1,11 +1,12 @@
 //! The string section that has the paths of a unit's table.
 ghost use Rattle.std.specs.Prelude.{◌-◌, ◌^◌, ◌<◌};
 
+use crate::units::unit_at;
 use lnt_header::EntryTable;
 use lnt_header::content::PATH;
 use lnt_io::Source;
 use lnt_text::StringSection;
-use lnt_unit::{SectionReader, UnitBuffer, UnitInPlace};
+use lnt_unit::{UnitBuffer, UnitInPlace};
 use lnt_wire::{Form, Order};
 use std::alloc::Global;
 
@@ -20,15 +21,7 @@ pub(crate) fn strings_of<R: Source>(
 ) -> Option<StringSection>
     requires { R.failures source.old < 2 ^ 64 - 1 }
 {
-    let mut reader = SectionReader::new(source, order);
-    let mut room = Vec::new(alloc);
-    while let Some(buffer) = reader.next_unit_in(room).ok()? {
-        if buffer.offset() == unit {
-            return strings_in(alloc, &buffer, which);
-        }
-        room = buffer.into_bytes();
-    }
-    None
+    strings_in(alloc, &unit_at(alloc, source, order, unit)?, which)
 }
 
 // The string section that has the paths of this table of the unit of the buffer, by the form of the first path in the table's format.

@@ -110,7 +110,7 @@ columns_found false reader bytes fields read other = λ begins.
 
 -- ---- one directory after others
 
-map_more : (directories : List Directory) (directory : Directory)
+pub map_more : (directories : List Directory) (directory : Directory)
     → units_of (directories ++ directory ∷ []) ≡ units_of directories ++ directory.unit ∷ []
 map_more directories directory = map-append (λ (x : Directory). x.unit) directories (directory ∷ [])
 

@@ -1,11 +1,14 @@
 pub mod DirectoryLemmas
 pub mod Prefixes
 pub mod FieldLemmas
+pub mod FirstFieldLaws
 pub mod PrefixLemmas
 pub mod HeaderLemmas
 pub mod ListFaultLemmas
 pub mod ListLemmas
 pub mod NoUnitLemmas
+pub mod OneFaultLaws
+pub mod OneListingLaws
 pub mod PlacedLaws
 pub mod SameUnitLemmas
 pub mod SectionLemmas

@@ -32,7 +32,7 @@ pub begins_prefix : (x rest whole : List ℕ) → BeginsEntry x → whole ≡ x 
 begins_prefix x rest whole b e = record { first = b.first; more = b.more ++ rest; some = b.some; joined = rw (e, b.joined) refl }
 
 -- after some entries no list goes on: no entry is there, and no zero byte
-none_list : (format : Format) (order : Order) (pairs : List Pair) (us : List Entry) (x rest bytes : List ℕ)
+pub none_list : (format : Format) (order : Order) (pairs : List Pair) (us : List Entry) (x rest bytes : List ℕ)
     → Each (ListedBytes format order pairs) us x → bytes ≡ x ++ rest → NoneSpelled (ListedBytes format order pairs) rest
     → ((more : List ℕ) → 0 ∷ more ≡ rest → ⊥) → NoneSpelled (ListBytes format order pairs) bytes
 none_list format order pairs [] x rest bytes p whole none goes_on [] y more q e =

@@ -45,7 +45,7 @@ same_version v w e = grind (arith, common_steps)
 abbrev pub IsNoOlder : Reason → Type 0
 IsNoOlder reason = (version : OlderVersion) → reason ≢ VersionNotFive (version_number version)
 
-other_version : (order : Order) (reason : Reason) (version : OlderVersion) (left rest : List ℕ) → IsNoOlder reason
+pub other_version : (order : Order) (reason : Reason) (version : OlderVersion) (left rest : List ℕ) → IsNoOlder reason
     → IsVersionFault order reason left → left ≡ number_bytes order 2 (version_number version) ++ rest → ⊥
 other_version order reason version left rest other k e =
     grind (arith, common_steps, length-append, length-number_bytes, same_number_prefix, width_2, small_version)

@@ -1,6 +1,7 @@
 -- Items one after another, each with its offset, and those that are left from a cursor on.
 use Rattle.std.proofs.Common.{◌≡◌, ◌∙◌, ℕ, ◌+◌, ◌<◌, List, [], ◌∷◌, ◌++◌, length, length-append, refl, sym, ap, arith, append_assoc}
 use Rattle.std.proofs.lemmas.List.{append-nil}
+use Rattle.lnt_wire.specs.Bytes.{NoneSpelled}
 use Rattle.lnt_wire.specs.Reading.{At, Reads}
 use Rattle.lnt_wire.specs.declared.format.Order.{Order}
 use Rattle.lnt_wire.proofs.LengthLaws.{same_rest}
@@ -32,6 +33,42 @@ placed_past Says offset [] bytes x rest some once none whole =
 placed_past Says offset (item ∷ items) bytes x rest some once (prefix, back, here, so, joined, others) whole =
     let same = once item prefix back so (sym joined ∙ whole) in
     (items, rw (same, same_rest prefix x back rest same (sym joined ∙ whole)) at others)
+
+-- items before bytes that no item begins have the same bytes
+pub placed_once : {A : Type 0} (Says : ℕ × A → List ℕ → Type 0) → ((i j : ℕ × A) (x y r s : List ℕ) → Says i x → Says j y
+    → x ++ r ≡ y ++ s → x ≡ y) → (k l : ℕ) (items others : List (ℕ × A)) (x y r s : List ℕ) → PlacedFrom Says k items x
+    → PlacedFrom Says l others y → x ++ r ≡ y ++ s → NoneSpelled Says r → NoneSpelled Says s → x ≡ y
+placed_once Says once k l [] [] x y r s p q e none none' = p ∙ sym q
+placed_once Says once k l [] (j ∷ others) x y r s p (prefix, back, here, so, joined, rest) e none none' =
+    absurd (none j prefix (back ++ s) so (simp (p, joined, append_assoc) at (sym e)))
+placed_once Says once k l (i ∷ items) [] x y r s (prefix, back, here, so, joined, rest) q e none none' =
+    absurd (none' i prefix (back ++ r) so (simp (q, joined, append_assoc) at e))
+placed_once Says once k l (i ∷ items) (j ∷ others) x y r s (prefix, back, here, so, joined, rest)
+    (first, after, there, also, whole, more) e none none' =
+    let all : prefix ++ (back ++ r) ≡ first ++ (after ++ s) = simp (joined, whole, append_assoc) at e in
+    let same : prefix ≡ first = once i j prefix first (back ++ r) (after ++ s) so also all in
+    let past : back ≡ after = placed_once Says once (k + length prefix) (l + length first) items others back after r s rest more
+    (same_rest prefix first (back ++ r) (after ++ s) same all) none none' in
+    rw (joined, whole, same, past) refl
+
+-- A unit after some items, whose bytes every item there has, is the next of other items.
+pub placed_at : {A : Type 0} (Says Also : ℕ × A → List ℕ → Type 0) → ((i j : ℕ × A) (x y r s : List ℕ) → Says i x → Also j y
+    → x ++ r ≡ y ++ s → x ≡ y) → (k l : ℕ) (items others : List (ℕ × A)) (x y unit r s : List ℕ) → PlacedFrom Says k items x
+    → PlacedFrom Also l others y → ((j : ℕ × A) (z m : List ℕ) → Also j z → z ++ m ≡ unit ++ r → z ≡ unit)
+    → x ++ (unit ++ r) ≡ y ++ s → length x < length y → (j : ℕ × A) × (j.0 ≡ l + length x) × Also j unit
+placed_at Says Also once k l items [] x y unit r s p q here e lt = absurd (omega (arith, lt, ap length q))
+placed_at Says Also once k l [] (j ∷ others) x y unit r s p (first, after, there, also, whole, more) here e lt =
+    let same = here j first (after ++ s) also (simp (p, whole, append_assoc) at (sym e)) in
+    (j, omega (arith, there, ap length p), rw same at also)
+placed_at Says Also once k l (i ∷ items) (j ∷ others) x y unit r s (prefix, back, at, so, joined, rest)
+    (first, after, there, also, whole, more) here e lt =
+    let all : prefix ++ (back ++ (unit ++ r)) ≡ first ++ (after ++ s) = simp (joined, whole, append_assoc) at e in
+    let same : prefix ≡ first = once i j prefix first (back ++ (unit ++ r)) (after ++ s) so also all in
+    let shorter : length back < length after =
+    omega (arith, lt, ap length joined, ap length whole, ap length same, length-append prefix back, length-append first after) in
+    let found = placed_at Says Also once (k + length prefix) (l + length first) items others back after unit r s rest more here
+    (same_rest prefix first (back ++ (unit ++ r)) (after ++ s) same all) shorter in
+    (found.0, omega (arith, found.1, ap length joined, ap length same, length-append prefix back), found.2)
 
 module _ {A : Type 0} (Says : Order → ℕ × A → List ℕ → Type 0) where
   -- at the beginning all are left

@@ -68,16 +68,15 @@ module _ (order : Order) (size : ℕ) (directories : List Directory) (section : 
       → IsLargeNext size (directory_at directories at.place) at → offset ≡ at.place → IsLargeAt order size directories section offset
   sized_large at offset s l here =
       let w = s.walked in
-      let before = newer_of order size directories 0 s.units w.done w.sound in
       rw here (record {
         prefix = w.done;
         unit = l.unit;
         rest = l.more;
         joined = rw (w.joined, l.joined) refl;
         place = w.place;
-        before = before.newer;
-        upgraded_before = record { units = s.units; sound = before.sound; sizes = before.sizes; upgraded = before.upgraded };
+        before = (s.units, w.sound);
         large = rw w.order_is at l.large;
+        misfit = rw w.order_is at l.misfit;
       })
 
 -- The lemmas of `judge_sizes`.

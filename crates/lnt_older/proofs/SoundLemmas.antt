@@ -1,5 +1,5 @@
 -- The numbers of an older header: fields of one byte that are read one after another, and the first that isn't there.
-use Rattle.std.proofs.Common.{◌≡◌, ◌≢◌, ℕ, ◌+◌, ◌-◌, ◌<◌, ◌≤◌, List, [], ◌∷◌, ◌++◌, length, take, drop, get_or, refl, sym, ap, subst, ◌∙◌}
+use Rattle.std.proofs.Common.{◌≡◌, ◌≢◌, ℕ, ◌+◌, ◌-◌, ◌<◌, ◌≤◌, List, [], ◌∷◌, ◌++◌, length, take, drop, get_or, refl, sym, ap, ◌∙◌}
 use Rattle.std.proofs.Common.{append_assoc, add-zero, arith, Option, Some, None, ℤ, FitsSigned}
 use Rattle.std.proofs.lemmas.List.{length-append, nil_from_length, take_more, drop_more, take-append-drop, take_all}
 use Rattle.lnt_wire.specs.Reading.{At, Reads, RefusesField, Refuses, IsCutShort}
@@ -8,8 +8,14 @@ use Rattle.lnt_wire.specs.Numbers.{NumberBytes}
 use Rattle.lnt_wire.specs.declared.fault.Fault.{Fault}
 use Rattle.lnt_wire.specs.declared.fault.Reason.{Reason}
 use Rattle.lnt_wire.specs.declared.format.Order.{Order}
+use Rattle.lnt_wire.proofs.FieldFaultLaws.{IsOneFieldFault}
+use Rattle.lnt_header.specs.FieldFaults.{FirstOf}
+use Rattle.lnt_header.specs.FieldFaults.FirstOf.{first, second}
+use Rattle.lnt_header.specs.Joins.{Both}
 use Rattle.lnt_header.proofs.ByteLaws.{one_digit}
+use Rattle.lnt_header.proofs.FirstFaultLaws.{fault_as, fault_of_part, field_fault, first_of, IsHere, IsOneFault}
 use Rattle.lnt_header.proofs.ReaderLaws.{reads_map, refuses_map}
+use Rattle.lnt_header_bytes.proofs.FaultLaws.{field_so, so_after}
 use Rattle.lnt_older.specs.UnitReading.{ByteOf, IsByteFault}
 use Rattle.lnt_older.specs.UnitReading.IsByteFault.{no_byte, is_zero}
 use Rattle.lnt_older.specs.OlderFields.{AreFieldBytes, IsSoundFault, MayBe, SoundBytes, NumbersBytes, number_fields, zero_reasons}
@@ -39,23 +45,33 @@ pub reads_some : (zero_reason : Option Reason) (reason : Reason) (n : ℕ) (old 
     → Reads (NumberBytes old.order 1) n old new → Reads (ByteOf zero_reason) n old new
 reads_some zero_reason reason n old new is some r = reads_byte zero_reason n old new (rw is (omega (arith, some))) r
 
+byte_code : (rule : Option Reason) → IsCode (ByteOf rule)
+byte_code rule = grind (arith, common_steps)
+
+byte_none : (rule : Option Reason) (reason : Reason) (bytes : List ℕ) → IsByteFault rule reason bytes → NoneSpelled (ByteOf rule) bytes
+byte_none rule reason bytes (no_byte reason_is ends) b x more p e = absurd (cc (e, ends, p.1))
+byte_none rule reason bytes (is_zero rest rule_is joined) b x more p e =
+    let all : b ∷ more ≡ 0 ∷ rest = ap (λ (z : List ℕ). z ++ more) (sym p.1) ∙ e ∙ joined in
+    let here : b ≡ 0 = cc in
+    omega (arith, here, rw rule_is at p.0)
+
+byte_one : (rule : Option Reason) (reason other : Reason) (bytes : List ℕ) → IsByteFault rule reason bytes → IsByteFault rule other bytes
+    → reason ≡ other
+byte_one rule reason other bytes h k = grind (arith, common_steps)
+
+byte_fault : (rule : Option Reason) → IsOneFieldFault (ByteOf rule) (IsByteFault rule)
+byte_fault rule = record { none = byte_none rule; one = byte_one rule }
+
 pub byte_cut : (zero_reason : Option Reason) (old : At) (fault : Fault) → RefusesField (IsCutShort 1) (NumberBytes old.order 1) old fault
     → RefusesField (IsByteFault zero_reason) (ByteOf zero_reason) old fault
-byte_cut zero_reason old fault r = grind (arith, common_steps, nil_from_length, length-append)
+byte_cut zero_reason old fault r = field_so (byte_fault zero_reason) old fault fault.reason r.place refl
+    (no_byte r.reason.reason_is (nil_from_length old.rest (omega (arith, r.reason.short))))
 
 pub byte_zero : (zero_reason : Option Reason) (reason : Reason) (n : ℕ) (old new : At) (fault : Fault) → zero_reason ≡ Some reason
     → n ≡ 0 → Reads (NumberBytes old.order 1) n old new → fault.place ≡ old.place → fault.reason ≡ reason
     → RefusesField (IsByteFault zero_reason) (ByteOf zero_reason) old fault
-byte_zero zero_reason reason n old new fault is zero_is r place same =
-    let whole : old.rest ≡ 0 ∷ new.rest = simp (r.whole, byte_is old.order n r.spelling r.spelled, zero_is) in
-    record {
-      place = place;
-      reason = is_zero new.rest (is ∙ ap Some (sym same)) whole;
-      none = λ m x more p e.
-          let all : m ∷ more ≡ 0 ∷ new.rest = ap (λ (z : List ℕ). z ++ more) (sym p.1) ∙ e ∙ whole in
-          let here : m ≡ 0 = cc in
-          omega (arith, here, rw is at p.0);
-    }
+byte_zero zero_reason reason n old new fault is zero_is r place same = field_so (byte_fault zero_reason) old fault reason place same
+    (is_zero new.rest is (simp (r.whole, byte_is old.order n r.spelling r.spelled, zero_is)))
 
 -- what the reader of one byte cites
 pub ruleset byte_exits = (reads_any, reads_some, byte_cut, byte_zero)
@@ -97,15 +113,47 @@ pub all_so_far : (zero_reasons : List (Option Reason)) (count : ℕ) (bytes all 
     → Reads (SoundBytes zero_reasons) bytes old new
 all_so_far zero_reasons count bytes all left old new le s all_is left_is bytes_are = grind (arith, common_steps, take_all, prefix_taken)
 
-none_sound : (done : List (Option Reason)) (rule : Option Reason) (past : List (Option Reason)) (prefix rest x more : List ℕ)
-    → AreFieldBytes done prefix → NoneSpelled (ByteOf rule) rest → AreFieldBytes (done ++ rule ∷ past) x → x ++ more ≡ prefix ++ rest → ⊥
-none_sound [] rule past [] rest [] more s none p e = p
-none_sound [] rule past [] rest (b ∷ x) more s none p e = none b (b ∷ []) (x ++ more) (p.0, refl) e
-none_sound (d ∷ done) rule past (f ∷ prefix) rest [] more s none p e = p
-none_sound (d ∷ done) rule past (f ∷ prefix) rest (b ∷ x) more s none p e =
-    let tails : x ++ more ≡ prefix ++ rest = cc in
-    none_sound done rule past prefix rest x more s.1 none p.1 tails
-none_sound done rule past prefix rest x more s none p e = s
+-- a fault of such fields, one after another
+abbrev IsChainFault : List (Option Reason) → Reason → List ℕ → List ℕ → Type 0
+IsChainFault [] reason before left = ⊥
+IsChainFault (rule ∷ rules) reason before left =
+    FirstOf (ByteOf rule) (IsHere (IsByteFault rule)) (λ _. IsChainFault rules) reason before left
+
+abbrev parted : List ℕ → ℕ × List ℕ
+parted [] = (0, [])
+parted (b ∷ bytes) = (b, bytes)
+
+of_bytes : (rule : Option Reason) (rules : List (Option Reason)) (values x : List ℕ) → SoundBytes (rule ∷ rules) values x
+    → Both (ByteOf rule) (λ _. SoundBytes rules) (parted values) x
+of_bytes rule rules values [] p = absurd p.0
+of_bytes rule rules values (b ∷ x) p =
+    rw p.1 (record { prefix = b ∷ []; back = x; first = (p.0.0, refl); second = (p.0.1, refl); joined = refl })
+
+chain_fault : (rules : List (Option Reason)) → IsOneFault (SoundBytes rules) (IsChainFault rules)
+chain_fault [] =
+    record { none = λ reason before left h. absurd h; one = λ reason other before before' left left' h k e. absurd h }
+chain_fault (rule ∷ rules) =
+    fault_of_part (Both (ByteOf rule) (λ _. SoundBytes rules)) (SoundBytes (rule ∷ rules)) (IsChainFault (rule ∷ rules)) parted
+    (of_bytes rule rules)
+    (first_of (ByteOf rule) (IsHere (IsByteFault rule)) (λ _. IsChainFault rules) (byte_code rule) (λ _. SoundBytes rules)
+    (field_fault (ByteOf rule) (IsByteFault rule) (byte_fault rule)) (λ _. chain_fault rules))
+
+chain_of : (done : List (Option Reason)) (rule : Option Reason) (past : List (Option Reason)) (reason : Reason) (before left : List ℕ)
+    → AreFieldBytes done before → IsByteFault rule reason left → IsChainFault (done ++ rule ∷ past) reason before left
+chain_of [] rule past reason [] left s h = first (refl, h)
+chain_of (d ∷ done) rule past reason (b ∷ before) left s h =
+    second b (b ∷ []) before (s.0, refl) refl (chain_of done rule past reason before left s.1 h)
+chain_of done rule past reason before left s h = absurd s
+
+sound_chain : (rules : List (Option Reason)) (reason : Reason) (before left : List ℕ) → IsSoundFault rules reason before left
+    → IsChainFault rules reason before left
+sound_chain rules reason before left (missing done rule past is s reason_is ends) =
+    rw is (chain_of done rule past reason before left s (no_byte reason_is ends))
+sound_chain rules reason before left (zero_byte done past more is s joined) =
+    rw is (chain_of done (Some reason) past reason before left s (is_zero more refl joined))
+
+sound_fault : (rules : List (Option Reason)) → IsOneFault (SoundBytes rules) (IsSoundFault rules)
+sound_fault rules = fault_as (SoundBytes rules) (IsChainFault rules) (IsSoundFault rules) (sound_chain rules) (chain_fault rules)
 
 fault_of : (rules done : List (Option Reason)) (rule : Option Reason) (past : List (Option Reason)) (reason : Reason) (before left : List ℕ)
     → rules ≡ done ++ rule ∷ past → AreFieldBytes done before → IsByteFault rule reason left → IsSoundFault rules reason before left
@@ -123,15 +171,8 @@ byte_missing zero_reasons i d old middle fault lt s r =
     let rule = get_or zero_reasons i d in
     let past = drop (i + 1) zero_reasons in
     let whole : zero_reasons ≡ done ++ rule ∷ past = rw (← drop_more zero_reasons i d lt) (sym (take-append-drop i zero_reasons)) in
-    record {
-      before = q.spelling;
-      left = middle.rest;
-      split = q.whole;
-      place = r.place ∙ q.place;
-      reason = fault_of zero_reasons done rule past fault.reason q.spelling middle.rest whole q.spelled.0 r.reason;
-      none = λ v x more p e. none_sound done rule past q.spelling middle.rest x more q.spelled.0 r.none
-          (subst (λ (z : List (Option Reason)). AreFieldBytes z x) whole p.0) (e ∙ q.whole);
-    }
+    so_after (sound_fault zero_reasons) old fault q r.place
+    (fault_of zero_reasons done rule past fault.reason q.spelling middle.rest whole q.spelled.0 r.reason)
 
 -- what the walk over the fields cites
 pub ruleset sound_walk = (none_so_far, next_so_far, all_so_far, byte_missing)
@@ -141,6 +182,10 @@ pub ruleset sound_walk = (none_so_far, next_so_far, all_so_far, byte_missing)
 sound_fields : (version : OlderVersion) (n : OlderNumbers) (x : List ℕ) → NumbersBytes version n x
     → SoundBytes (zero_reasons version) (number_fields version n) x
 sound_fields version n x p = grind (arith, common_steps)
+
+pub numbers_fault : (version : OlderVersion) → IsOneFault (NumbersBytes version) (IsSoundFault (zero_reasons version))
+numbers_fault version = fault_of_part (SoundBytes (zero_reasons version)) (NumbersBytes version) (IsSoundFault (zero_reasons version))
+    (number_fields version) (sound_fields version) (sound_fault (zero_reasons version))
 
 pub numbers_refused : (version : OlderVersion) (old : At) (fault : Fault)
     → Refuses (IsSoundFault (zero_reasons version)) (SoundBytes (zero_reasons version)) old fault

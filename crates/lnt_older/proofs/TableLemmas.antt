@@ -27,7 +27,7 @@ use Rattle.std.proofs.lemmas.Grind.{common_steps}
 -- ---- tables
 
 -- a number below 128 is its own spelling
-one_byte_leb : (n : ℕ) → n < 128 → UnsignedLeb n (n ∷ [])
+pub one_byte_leb : (n : ℕ) → n < 128 → UnsignedLeb n (n ∷ [])
 one_byte_leb n lt = record { shape = lt; value = omega (arith, lt); fits = omega (arith, lt) }
 
 pair_spelled : (content code : ℕ) (pair : Pair) → pair.content ≡ content → form_code pair.form ≡ code → content < 128 → code < 128

@@ -2,7 +2,7 @@
 use Rattle.std.specs.Prelude.{◌≡◌, ℕ, ◌<◌, List, [], ◌∷◌, ◌++◌, length, Option, Some, None}
 use Rattle.std.specs.List.{AllByRecursion}
 use Rattle.lnt_wire.specs.FrameBytes.{FrameBytes}
-use Rattle.lnt_wire.specs.Reading.{Refuses}
+use Rattle.lnt_wire.specs.Reading.{At, Refuses}
 use Rattle.lnt_wire.specs.declared.fault.Fault.{Fault}
 use Rattle.lnt_wire.specs.declared.format.Order.{Order}
 use Rattle.lnt_header.specs.Joins.{Each, PlacedFrom}
@@ -10,7 +10,7 @@ use Rattle.lnt_header.specs.Parts.{HeaderParts}
 use Rattle.lnt_header_bytes.specs.HeaderBytes.{HeaderBytesIn}
 use Rattle.lnt_header_bytes.specs.HeaderReading.{standing}
 use Rattle.lnt_older.specs.OlderBytes.{OlderBytesIn, OlderVersion}
-use Rattle.lnt_older.specs.OlderUnits.{AnyBytes, AnyParts, IsAnyFault, five_parts, older_parts, older_spelling, OlderUnit}
+use Rattle.lnt_older.specs.OlderUnits.{AnyBytes, AnyParts, IsAnyFault, five_parts, older_parts, older_spelling, OlderUnit, ReadsOlder}
 use Rattle.lnt_older.specs.Upgraded.{IsTooLong, upgraded}
 use Rattle.lnt_older.specs.Directories.{directory_at, Directory, IsBadRecord, IsDirectoryFile}
 use Rattle.lnt_older.specs.declared.section.UpgradeFault.{UpgradeFault}
@@ -55,6 +55,28 @@ pub record IsUpgraded (order : Order) (address_size : ℕ) (directories : List D
   pub sizes : AllByRecursion (HasAddressSize address_size) units
   pub upgraded : Each (UpgradedBytes order directories) units result
 
+-- ---- what a unit needs
+
+-- However the unit is read from these bytes, if it is an older one, the unit of version 5 isn't too long.
+abbrev pub Fits : Order → ℕ → List ℕ → List ℕ → Type 0
+Fits order address_size directory bytes =
+    (unit : OlderUnit) (at next : At) → at.order ≡ order → at.rest ≡ bytes ++ next.rest → ReadsOlder unit at next
+    → IsTooLong unit address_size directory → ⊥
+
+-- The bytes are those of the unit, which can be written anew.
+pub record CanBeUpgraded (order : Order) (address_size : ℕ) (directories : List Directory) (unit : ℕ × AnyParts) (bytes : List ℕ) : Type 0
+  where
+    pub spelled : AnyBytes order unit.1 bytes
+    pub size : HasAddressSize address_size unit
+    pub fits : Fits order address_size (directory_at directories unit.0) bytes
+    pub newer : List ℕ
+    pub upgraded : UpgradedBytes order directories unit newer
+
+-- Each unit of the section can be written anew.
+abbrev pub CanUpgrade : Order → ℕ → List Directory → List ℕ → Type 0
+CanUpgrade order address_size directories section =
+    (units : List (ℕ × AnyParts)) × PlacedFrom (CanBeUpgraded order address_size directories) 0 units section
+
 -- ---- why there is none
 
 -- After some units more bytes follow, and they begin with none, for this reason.
@@ -85,9 +107,9 @@ pub record IsLargeAt (order : Order) (address_size : ℕ) (directories : List Di
   pub rest : List ℕ
   pub joined : section ≡ prefix ++ (unit ++ rest)
   pub place : offset ≡ length prefix
-  pub before : List ℕ
-  pub upgraded_before : IsUpgraded order address_size directories prefix before
+  pub before : CanUpgrade order address_size directories prefix
   pub large : IsLargeUnit order address_size (directory_at directories offset) unit
+  pub misfit : Fits order address_size (directory_at directories offset) unit → ⊥
 
 -- ---- a section that is written anew, or why it isn't
 

@@ -1,13 +1,13 @@
--- Which units can be written anew, which of them are left at a cursor, and what it is to write one. Public contracts speak of all of it.
+-- Which units that can be written anew are left at a cursor, and what it is to write one. Public contracts speak of all of it.
 use Rattle.std.specs.Prelude.{◌≡◌, ℕ, List, ◌++◌}
 use Rattle.lnt_wire.specs.Reading.{At, Reads}
 use Rattle.lnt_wire.specs.FormBytes.{HasNoZero}
 use Rattle.lnt_wire.specs.declared.format.Order.{Order}
 use Rattle.lnt_header.specs.Joins.{PlacedFrom}
-use Rattle.lnt_older.specs.OlderUnits.{AnyBytes, AnyParts, ReadsOlder, OlderUnit}
-use Rattle.lnt_older.specs.Upgraded.{IsTooLong}
+use Rattle.lnt_older.specs.OlderUnits.{AnyBytes, AnyParts}
 use Rattle.lnt_older.specs.Directories.{AreDirectories, directory_at, Directory}
-use Rattle.lnt_older.specs.Sections.{HasAddressSize, UpgradedBytes, IsBroken, IsLargeAt, IsLargeUnit}
+pub use Rattle.lnt_older.specs.Sections.{CanBeUpgraded, CanUpgrade, Fits}
+use Rattle.lnt_older.specs.Sections.{IsBroken, IsLargeAt, IsLargeUnit}
 use Rattle.lnt_older.specs.declared.section.UpgradeFault.{UpgradeFault}
 use Rattle.lnt_older.specs.declared.section.UpgradeFault.TheVariants.{Malformed, TooLarge, Memory}
 
@@ -17,28 +17,6 @@ use Rattle.lnt_older.specs.declared.section.UpgradeFault.TheVariants.{Malformed,
 pub record AreSoundDirectories (directories : List Directory) : Type 0 where
   pub rising : AreDirectories directories
   pub no_zero : (offset : ℕ) → HasNoZero (directory_at directories offset)
-
--- ---- what a unit needs
-
--- However the unit is read from these bytes, if it is an older one, the unit of version 5 isn't too long.
-abbrev pub Fits : Order → ℕ → List ℕ → List ℕ → Type 0
-Fits order address_size directory bytes =
-    (unit : OlderUnit) (at next : At) → at.order ≡ order → at.rest ≡ bytes ++ next.rest → ReadsOlder unit at next
-    → IsTooLong unit address_size directory → ⊥
-
--- The bytes are those of the unit, which can be written anew.
-pub record CanBeUpgraded (order : Order) (address_size : ℕ) (directories : List Directory) (unit : ℕ × AnyParts) (bytes : List ℕ) : Type 0
-  where
-    pub spelled : AnyBytes order unit.1 bytes
-    pub size : HasAddressSize address_size unit
-    pub fits : Fits order address_size (directory_at directories unit.0) bytes
-    pub newer : List ℕ
-    pub upgraded : UpgradedBytes order directories unit newer
-
--- Each unit of the section can be written anew.
-abbrev pub CanUpgrade : Order → ℕ → List Directory → List ℕ → Type 0
-CanUpgrade order address_size directories section =
-    (units : List (ℕ × AnyParts)) × PlacedFrom (CanBeUpgraded order address_size directories) 0 units section
 
 -- ---- at a cursor
 

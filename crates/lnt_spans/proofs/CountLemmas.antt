@@ -9,6 +9,7 @@ use Rattle.lnt_spans.specs.Partial.{whole}
 use Rattle.lnt_spans.specs.Spans.{number_spans, FitSpans, IsOfInstructions, AreInOrder, span_answer, Span}
 use Rattle.lnt_spans.specs.Laws.{AnswersAddresses, AnswersMore, ChangesAtInstructions}
 use Rattle.lnt_spans.specs.Positions.{IsBelow, IsAtMost, is_below, is_at_most, Position}
+use Rattle.lnt_spans.specs.SpanKinds.{SpanKind, answer_held}
 use Rattle.lnt_spans.proofs.AnsweringLaws.{answer_after, answer_before, answer_in, rest_in_order, rest_none}
 use Rattle.lnt_spans.proofs.PositionLaws.{order_cases, test_at_most, test_below, test_not_at_most, test_not_below}
 use Rattle.std.proofs.lemmas.Grind.{common_steps}
@@ -187,28 +188,33 @@ fitting_spans (span ∷ rest) fit p l =
     record { address = omega (arith, l, fit.0.high.address); op = λ e. absurd (omega (arith, l, fit.0.high.address, e)) } in
     answer_after number_spans span rest p past ∙ fitting_spans rest fit.1 p l
 
--- the answers of spans that begin and end at operation index 0
-pub instruction_spans : (spans : List Span) → AllByRecursion IsOfInstructions spans → ChangesAtInstructions (span_answer spans)
-instruction_spans [] each p = refl
-instruction_spans (span ∷ rest) each p = elim (order_cases p span.low) [
+-- the answers of spans of a kind that begin and end at operation index 0
+pub kind_spans : {X Y : Type 0} (kind : SpanKind X Y) (spans : List X)
+    → AllByRecursion (λ span. ((kind.low span).op ≡ 0) × ((kind.high span).op ≡ 0)) spans
+    → ChangesAtInstructions (answer_held kind spans)
+kind_spans kind [] each p = refl
+kind_spans kind (span ∷ rest) each p = elim (order_cases p (kind.low span)) [
   | inl h ↦
-      let under : IsBelow (whole p.address) span.low =
+      let under : IsBelow (whole p.address) (kind.low span) =
       record { address = h.address; op = λ e. omega (arith, h.op e, each.0.0) } in
-      answer_before number_spans span rest p h ∙ instruction_spans rest each.1 p
-      ∙ sym (answer_before number_spans span rest (whole p.address) under)
+      answer_before kind span rest p h ∙ kind_spans kind rest each.1 p
+      ∙ sym (answer_before kind span rest (whole p.address) under)
   | inr h ↦
-      let from : IsAtMost span.low (whole p.address) = record { address = h.address; op = λ e. omega (arith, each.0.0) } in
-      elim (order_cases p span.high) [
+      let from : IsAtMost (kind.low span) (whole p.address) = record { address = h.address; op = λ e. omega (arith, each.0.0) } in
+      elim (order_cases p (kind.high span)) [
         | inl k ↦
-            let under : IsBelow (whole p.address) span.high =
+            let under : IsBelow (whole p.address) (kind.high span) =
             record { address = k.address; op = λ e. omega (arith, k.op e, each.0.1) } in
-            answer_in number_spans span rest p h k ∙ sym (answer_in number_spans span rest (whole p.address) from under)
+            answer_in kind span rest p h k ∙ sym (answer_in kind span rest (whole p.address) from under)
         | inr k ↦
-            let past : IsAtMost span.high (whole p.address) = record { address = k.address; op = λ e. omega (arith, each.0.1) } in
-            answer_after number_spans span rest p k ∙ instruction_spans rest each.1 p
-            ∙ sym (answer_after number_spans span rest (whole p.address) past)
+            let past : IsAtMost (kind.high span) (whole p.address) = record { address = k.address; op = λ e. omega (arith, each.0.1) } in
+            answer_after kind span rest p k ∙ kind_spans kind rest each.1 p
+            ∙ sym (answer_after kind span rest (whole p.address) past)
       ]
 ]
+
+pub instruction_spans : (spans : List Span) → AllByRecursion IsOfInstructions spans → ChangesAtInstructions (span_answer spans)
+instruction_spans spans each = kind_spans number_spans spans each
 
 -- ---- spans that come one after another
 
@@ -236,8 +242,3 @@ pub counts_on : (S : Type 0) (to_come : S → List Span → Type 0) (total : ℕ
     → (count + addresses_between span.low span.high ≤ 2 ^ 64 → more ≡ count + addresses_between span.low span.high)
     → CountsOn to_come total spans' more
 counts_on S to_come total spans spans' count more span h gives adds = grind (arith, common_steps, counts_first)
-
--- nothing counted yet, of spans in order
-pub counts_none : (S : Type 0) (to_come : S → List Span → Type 0) (spans : S) (list : List Span) → to_come spans list → AreInOrder list
-    → CountsTo to_come (addresses_of list) spans 0 list
-counts_none S to_come spans list coming order = grind (arith, common_steps, addresses_of_spans, most_addresses)

@@ -1,12 +1,14 @@
 -- What a comparison found, once no record of the table follows.
-use Rattle.std.proofs.Common.{◌≡◌, ◌∙◌, ℕ, ◌+◌, ◌^◌, ◌≤◌, true, false, List, ◌∷◌, ◌⊎◌, inl, inr, refl, ap, subst, sym, Some, None, Option, arith}
+use Rattle.std.proofs.Common.{◌≡◌, ◌∙◌, ℕ, ◌+◌, ◌^◌, ◌≤◌, true, false, List, ◌∷◌, ◌⊎◌, inl, inr, refl, ap, subst, sym, Some, None, Option}
+use Rattle.std.proofs.Common.{arith}
 use Rattle.std.proofs.Common.{is_some, option_map, true≢false, MatchOption}
 use Rattle.std.specs.Option.{option_or}
 use Rattle.std.proofs.lemmas.Option.{same_Some}
 use Rattle.lnt_spans.specs.declared.merge.Merge.{Merge}
 use Rattle.lnt_spans.specs.Remaining.{Ahead, IsAhead}
 use Rattle.lnt_spans.specs.AnyStretches.{Stretch}
-use Rattle.lnt_spans.specs.Partial.{CountsTo, addresses_answered, addresses_between, addresses_of, is_answered, whole, IsRightAt, IsRightWherever}
+use Rattle.lnt_spans.specs.Partial.{CountsTo, addresses_answered, addresses_between, addresses_of, is_answered, whole, IsRightAt}
+use Rattle.lnt_spans.specs.Partial.{IsRightWherever}
 use Rattle.lnt_spans.specs.Partial.{where_answered, where_missed}
 use Rattle.lnt_spans.specs.Differences.{IsFirstDifference}
 use Rattle.lnt_spans.specs.Merged.{AreCounted, AreFound, ArePassed, HasGap, HasMerged, answer_told, until}
@@ -25,7 +27,8 @@ pub found_mistaken : {S D X : Type 0} (to_come : S → List Span → Type 0) (te
     (spans : List Span) (by_table : Position → Option X) (missed all : ℕ) → true ≡ is_some merge.mistake
     → HasMerged to_come tell value_of merge spans by_table
     → AreFound value_of (answer_told tell spans) by_table (record { gap = merge.gap; mistake = merge.mistake; missed = missed; all = all })
-found_mistaken {S} {D} {X} to_come tell value_of merge spans by_table missed all some m = grind (arith, common_steps, true≢false, alike_here)
+found_mistaken {S} {D} {X} to_come tell value_of merge spans by_table missed all some m =
+    grind (arith, common_steps, true≢false, alike_here)
 
 -- none was found, and so the spans that are left count
 pub merged_none : {S D X : Type 0} (to_come : S → List Span → Type 0) (tell : Answer → X) (value_of : D → Stretch X) (merge : Merge S D)

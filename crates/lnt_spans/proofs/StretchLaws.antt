@@ -88,7 +88,8 @@ ToldAfter f g told at s t more = AreToldBelow f g at s t (told ++ more) × AreEn
 abbrev pub AllAfter : {X : Type 0} → (Position → Option X) → (Position → Option X) → List (Stretch X) → List (Stretch X) → Type 0
 AllAfter f g told more = AreAllStretches f g (told ++ more) × AllByRecursion (HasEnd f g) more
 
-goes_on : {X : Type 0} (f g : Position → Option X) (told : List (Stretch X)) → GoesOn f g stretch_at (ToldAfter f g told) (AllAfter f g told)
+goes_on : {X : Type 0} (f g : Position → Option X) (told : List (Stretch X))
+    → GoesOn f g stretch_at (ToldAfter f g told) (AllAfter f g told)
 goes_on f g told = record {
   kept = λ at end s t more h lt stay. (
     told_on f g at end s t (told ++ more) h.0 lt stay,
@@ -133,7 +134,8 @@ given_on to_come is_at value_of tell said stretches by_section by_table told sam
     let s = option_map tell stretches.before.section in
     let t = option_map said stretches.before.table in
     all_told same by_section by_table stretch_at (ToldAfter by_section by_table told) (AllAfter by_section by_table told)
-    (goes_on by_section by_table told) stretches.at s t [] (ahead_runs to_come tell stretches.section stretches.at by_section h.section) runs
+    (goes_on by_section by_table told) stretches.at s t []
+    (ahead_runs to_come tell stretches.section stretches.at by_section h.section) runs
     (subst (AreToldBelow by_section by_table stretches.at s t) (sym (append-nil told)) h.below, tt)
 
 -- ---- by number

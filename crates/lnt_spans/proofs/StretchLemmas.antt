@@ -1,5 +1,6 @@
 -- Both sides, followed step by step as their stretches are told, and where nothing is told yet.
-use Rattle.std.proofs.Common.{◌≡◌, ◌≢◌, ◌∙◌, ℕ, ◌+◌, ◌^◌, ◌≤◌, Bool, true, false, cond, List, [], ◌∷◌, ◌++◌, ◌⊎◌, inl, inr, arith, is_some, ap}
+use Rattle.std.proofs.Common.{◌≡◌, ◌≢◌, ◌∙◌, ℕ, ◌+◌, ◌^◌, ◌≤◌, Bool, true, false, cond, List, [], ◌∷◌, ◌++◌, ◌⊎◌, inl, inr, arith, is_some}
+use Rattle.std.proofs.Common.{ap}
 use Rattle.std.proofs.Common.{sym, subst, Some, None, Option, option_map, append-nil, refl}
 use Rattle.std.specs.List.{AllByRecursion}
 use Rattle.lnt_spans.specs.Remaining.{IsAhead, Ahead}
@@ -15,7 +16,8 @@ use Rattle.lnt_spans.specs.Runs.{IsAheadAt, IsRun, IsSideAt, IsUpTo}
 use Rattle.lnt_spans.specs.Stepping.{IsKnown, answered_between, missed_between}
 use Rattle.lnt_spans.proofs.AnsweringLaws.{back_in_order, prefix_in_order}
 use Rattle.lnt_spans.proofs.CountLemmas.{added_range, addresses_of_spans, most_addresses, no_addresses, same_addresses}
-use Rattle.lnt_spans.proofs.MergedLemmas.{all_counted, missed_here, missed_said, missed_unanswered, unanswered_same, until_below, until_from}
+use Rattle.lnt_spans.proofs.MergedLemmas.{all_counted, missed_here, missed_said, missed_unanswered, unanswered_same, until_below}
+use Rattle.lnt_spans.proofs.MergedLemmas.{until_from}
 use Rattle.lnt_spans.proofs.PassedLaws.{answer_below, answer_from, ends_after, told_prefix, told_same}
 use Rattle.lnt_spans.proofs.PositionLaws.{at_most_itself, at_most_trans, below_at_most, below_is_at_most, not_both, order_cases}
 use Rattle.lnt_spans.proofs.RunLaws.{Moves, moves, stay_on}

@@ -1,5 +1,6 @@
 -- What the bodies of this crate say of one step. No public contract speaks of it.
-use Rattle.std.specs.Prelude.{ℕ, ◌<◌, ◌≤◌, List, get_or, length, ◌≡◌, ◌≢◌, ◌⊎◌, Bool, false, ◌&&◌, cond, is_some, is_none, [], ◌∷◌, ◌++◌, Option}
+use Rattle.std.specs.Prelude.{ℕ, ◌<◌, ◌≤◌, List, get_or, length, ◌≡◌, ◌≢◌, ◌⊎◌, Bool, false, ◌&&◌, cond, is_some, is_none, [], ◌∷◌, ◌++◌}
+use Rattle.std.specs.Prelude.{Option}
 use Rattle.std.specs.Prelude.{Some, None, MatchBool, option_map}
 use Rattle.lnt_spans.specs.Positions.{IsBelow, IsAtMost, Position}
 use Rattle.lnt_spans.specs.declared.any_stretches.Step.{Step}

@@ -63,7 +63,8 @@ stretches_left of_section of_table differences =
     stretches_to_give of_section (λ ahead at. runs_left at ahead.next (of_table ahead.spans)) differences.stretches
 
 -- this stretch was given last, and its two answers are the last ones
-abbrev pub IsGoingByNumber : {S T : Type 0} → Differences S T → (Position → Option Answer) → (Position → Option Answer) → Difference → Type 0
+abbrev pub IsGoingByNumber : {S T : Type 0} → Differences S T → (Position → Option Answer) → (Position → Option Answer) → Difference
+    → Type 0
 IsGoingByNumber differences by_section by_table last =
     IsGoing (in_version differences.version) (λ answer. answer) differences.stretches by_section by_table (stretch_of last)
 

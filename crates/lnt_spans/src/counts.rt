@@ -1,9 +1,8 @@
 //! How many addresses answer: those of ranges of positions, added up.
 ghost use Rattle.std.specs.Prelude.{◌≡◌, ℕ, ◌+◌, ◌^◌, ◌<◌, ◌≤◌, List};
 ghost use Rattle.lnt_spans.specs.declared.span.Span as spec;
-ghost use Rattle.lnt_spans.specs.Partial.{CountsTo, addresses_answered, addresses_between, whole};
+ghost use Rattle.lnt_spans.specs.Partial.{CountsTo, addresses_between, whole};
 ghost use Rattle.lnt_spans.specs.Positions.{IsAtMost, IsBelow};
-ghost use Rattle.lnt_spans.specs.Spans.{AreInOrder, span_answer};
 
 use crate::position::Position;
 use crate::source::SpanSource;
@@ -41,14 +40,6 @@ fn first_from(position: Position) -> u128
     } else {
         address + 1
     }
-}
-
-/// The number of addresses at which the spans of a source answer. The caller makes sure that the spans are in order and none
-/// is empty. Allocates nothing.
-pub fn count_all<S: SpanSource + Drop>(spans: S) -> u128
-    ensures { (list : List spec.Span) → S.to_come spans list → AreInOrder list → result ≡ addresses_answered (span_answer list) }
-{
-    count_rest(spans, 0)
 }
 
 // The number of addresses that were counted, with those of the spans that are left.

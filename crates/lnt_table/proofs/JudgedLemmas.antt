@@ -1,6 +1,7 @@
 -- What a comparison of a table of any version with a good section says of the two.
 use Rattle.lnt_spans.specs.SpanKinds.{answer_held}
-use Rattle.std.proofs.Common.{◌≡◌, ◌≢◌, ◌-◌, ◌++◌, ℕ, List, [], Option, Some, None, IfSome, arith, inl, inr, refl, subst, MatchOption, option_map}
+use Rattle.std.proofs.Common.{◌≡◌, ◌≢◌, ◌-◌, ◌++◌, ℕ, List, [], Option, Some, None, IfSome, arith, inl, inr, refl, subst, MatchOption}
+use Rattle.std.proofs.Common.{option_map}
 use Rattle.std.proofs.lemmas.Option.{IfSome_then}
 use Rattle.lnt_spans.specs.declared.difference.Difference.{Difference}
 use Rattle.lnt_spans.specs.declared.found.Found.{Found as FoundSpec}

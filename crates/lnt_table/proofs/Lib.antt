@@ -10,3 +10,4 @@ mod AnyLawLemmas
 pub mod OneCheckLemmas
 pub mod OneWithinLemmas
 pub mod CoveredLemmas
+pub mod CoveredWholeLemmas

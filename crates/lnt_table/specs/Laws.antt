@@ -1,9 +1,13 @@
 -- The laws of verdicts and of answers of `check_any`.
 use Rattle.std.specs.Prelude.{◌≡◌, ℕ, List, [], Option}
+use Rattle.std.specs.List.{AllByRecursion}
 use Rattle.lnt_header.specs.declared.unit_parts.UnitParts.{UnitParts}
 use Rattle.lnt_spans.specs.declared.answer.Version.{Version}
 use Rattle.lnt_spans.specs.declared.position.Position.{Position}
-use Rattle.lnt_sequences.specs.Sequences.{Selection}
+use Rattle.lnt_spans.specs.declared.span.Span.{Span}
+use Rattle.lnt_spans.specs.Spans.{FitSpans, IsOfInstructions, span_answer}
+use Rattle.lnt_sequences.specs.Sequences.{Selection, line_answer}
+use Rattle.lnt_records.specs.Faults.{IsUnnumbered}
 use Rattle.lnt_lines.specs.declared.options.Options.{Options}
 use Rattle.lnt_lines.specs.Contents.{Contents}
 use Rattle.lnt_lines.specs.Judging.{AreLinesOf}
@@ -115,6 +119,21 @@ pub record YesIsCovered : Type 0 where
       → IsTrueCheck line general options section table (Numbered Yes) → IsCovered line general options section table (λ all. all)
   pub by_path : (line general : List ℕ) (options : Options) (section table : List ℕ)
       → IsTrueCheck line general options section table (ByPath Same) → IsCovered line general options section table (λ all. all)
+
+-- These spans begin and end at operation index 0, their numbers have at most 64 bits, and they answer as the rows of these units do.
+pub record AreOfInstructions (selection : Selection) (spans : List Span) : Type 0 where
+  pub each : AllByRecursion IsOfInstructions spans
+  pub fits : FitSpans spans
+  pub answers : (p : Position) → span_answer spans p ≡ line_answer selection p
+
+-- A table by path that is right wherever it answers, and answers all of the section's addresses, answers as the section does at every
+-- position, if the section's spans begin and end at operation index 0.
+abbrev pub CoveredIsYes : Type 0
+CoveredIsYes = (line general : List ℕ) (options : Options) (section table : List ℕ) (all : ℕ) → IsUnnumbered table
+    → ((units : List (ℕ × UnitParts)) → IsGood line general options section units
+    → (spans : List Span) × AreOfInstructions (selected options units) spans)
+    → IsTrueWithin Answered line general options section table (Covered (record { answered = all; all = all }))
+    → IsTrueCheck line general options section table (ByPath Same)
 
 -- A table without records is right wherever it answers, and answers none of a good section's addresses.
 pub record EmptyIsCovered : Type 0 where

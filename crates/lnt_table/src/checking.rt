@@ -16,7 +16,7 @@ use std::alloc::Global;
 /// Checks the section `.debug_line` (DWARF 5, section 6.2) that `section` gives against the address table that `table`
 /// gives.
 ///
-/// **Where it answers Yes, the section's bytes encode exactly a list of well-formed units, positions never fall within a
+/// **Where it answers Yes, the section's bytes are exactly those of a list of well-formed units, positions never fall within a
 /// live sequence, no position is held by two live sequences, every file and directory number used exists, and for every
 /// address and operation index the table's answer is that of the last matrix row at or before it in the live sequence
 /// holding it, or none where none does.**
@@ -25,7 +25,7 @@ use std::alloc::Global;
 /// - *answers Yes*: the call returns `Ok(Verdict::Yes)`;
 /// - *the section's bytes*: all that `section` still gives at entry, if its bytes are known, however the reads divide them
 ///   (`Source.remaining`);
-/// - *encode exactly*: `SectionBytes` of `lnt_unit`, with nothing before, between or after the units;
+/// - *are exactly those of*: `SectionBytes` of `lnt_unit`, with nothing before, between or after the units;
 /// - *well-formed*: `IsWellFormed` of `lnt_lines`: the program runs, and the tables are usable;
 /// - *never fall*: `AreOrdered` of `lnt_sequences`; equal positions are allowed;
 /// - *live*: `live_sequences` of `lnt_sequences`: the sequence doesn't begin at the address of dead code, if the options

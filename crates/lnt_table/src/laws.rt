@@ -1,7 +1,7 @@
 //! Laws of answers and verdicts, each the contract of a function without parameters that does nothing.
 ghost use Rattle.lnt_spans.specs.Laws.{Borders};
 ghost use Rattle.lnt_table.specs.Laws.{OneCheck, OneNumbered, OneVerdict, OneWritten, OnlyYes, OwnTable, OwnTableByPath, OwnTableOfUnits};
-ghost use Rattle.lnt_table.specs.Laws.{EmptyIsCovered, OneWithin, YesIsCovered};
+ghost use Rattle.lnt_table.specs.Laws.{CoveredIsYes, EmptyIsCovered, OneWithin, YesIsCovered};
 
 /// If two lists of spans, each in order and without empty spans, give the same answer at each position where a span of
 /// either begins or ends, they give the same answer at every position. So the spans of a table and of a section need to be
@@ -99,6 +99,13 @@ pub fn one_within()
 #[tactic(auto, using(crate::proofs::CoveredLemmas::yes_is_covered))]
 pub fn yes_is_covered()
     ensures { YesIsCovered }
+{}
+
+/// If `check_within` can answer in the scope `Answered` that a table by path is right wherever it answers, and that it answers all
+/// addresses of the section, `check_any` can answer that it answers as the section does, if the section's spans begin and end at
+/// operation index 0.
+pub fn covered_is_yes()
+    ensures { CoveredIsYes }
 {}
 
 /// Of a good section and a table without records `check_within` can answer in the scope `Answered` that the table is right

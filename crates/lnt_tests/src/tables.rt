@@ -5,6 +5,7 @@ mod lines;
 mod records;
 mod spans;
 mod sums;
+mod symbols;
 mod table;
 mod within;
 mod worked;

@@ -6,9 +6,9 @@ use Rattle.lnt_text.specs.declared.note.Argument.TheVariants as argument
 use Rattle.lnt_text.specs.declared.note.Column.{Column}
 use Rattle.lnt_text.specs.declared.note.Column.TheVariants as column
 use Rattle.lnt_text.specs.declared.note.Look.{Look}
-use Rattle.lnt_text.specs.declared.note.Look.TheVariants.{Elf, Pe, MachO, Gzip, Zstd, CompressedSection, Text, InOrder}
+use Rattle.lnt_text.specs.declared.note.Look.TheVariants.{Elf, Pe, MachO, Gzip, Zstd, CompressedSection, Symbols, Text, InOrder}
 use Rattle.lnt_text.specs.declared.note.Note.{Note}
-use Rattle.lnt_text.specs.declared.note.Note.TheVariants.{Word, NotRaw, Older, NoStrings, MaybeDead, NoneDead, Copies}
+use Rattle.lnt_text.specs.declared.note.Note.TheVariants.{Word, NotRaw, Older, AddressBytes, NoStrings, MaybeDead, NoneDead, Copies}
 use Rattle.lnt_text.specs.declared.note.Note.TheVariants.{HoldsNothing, NoSums, TableHeader, TableRecord}
 use Rattle.lnt_text.specs.declared.note.RecordRule.{RecordRule}
 use Rattle.lnt_text.specs.declared.note.RecordRule.TheVariants.{Fields, Kind, Order}
@@ -24,6 +24,7 @@ argument_text argument.Dead = codes "ADDRESS of --dead is 0x and 1 to 16 hexadec
 argument_text argument.Format = codes "--format is 32 or 64"
 argument_text argument.Order = codes "--order is little or big"
 argument_text argument.AddressSize = codes "--address-size is 2, 4 or 8"
+argument_text argument.Base = codes "ADDRESS of --base is 0x and 1 to 16 hexadecimal digits"
 argument_text argument.AtLeast = codes "P of --at-least is 1 to 3 decimal digits, and at most 100"
 
 -- what a file looks like, and what to do
@@ -35,6 +36,7 @@ look_text Gzip = codes "this looks like a file that gzip compressed; decompress 
 look_text Zstd = codes "this looks like a file that zstd compressed; decompress it first"
 look_text CompressedSection =
     codes "this looks like a compressed section; objcopy --decompress-debug-sections, with --dump-section, decompresses it"
+look_text Symbols = codes "this looks like a symbol file; linetab-object check compares one with a program"
 look_text Text = codes "this looks like text; a section is the raw bytes of .debug_line"
 look_text (InOrder order.Big) = codes "its length fits where the section is big-endian; try --big"
 look_text (InOrder order.Little) = codes "its length fits where the section is little-endian; leave out --big"
@@ -89,7 +91,11 @@ numbered_headers = codes "low,low_op,high,high_op,unit,file,line,column,is_stmt 
 abbrev pub note_text : Note → List ℕ
 note_text (Word argument) = argument_text argument
 note_text (NotRaw look) = look_text look
-note_text Older = codes "linetab upgrade writes units of versions 2 to 4 anew in version 5, which the other words read"
+note_text Older =
+    codes "linetab upgrade SECTION --address-size N writes units of versions 2 to 4 anew in version 5, which the other words read; N is how many bytes an address has: 8 in a 64-bit program, 4 in a 32-bit one"
+note_text (AddressBytes count) =
+    codes "the operation there sets an address of " ++ (decimal count ++
+    (codes " bytes; if linetab upgrade wrote the section, run it with --address-size " ++ decimal count))
 note_text (NoStrings section) = strings_text section
 note_text (MaybeDead count address) =
     codes "sequences begin at " ++ (hexadecimal address ++

@@ -15,6 +15,8 @@ pub enum Note {
     NotRaw(Look),
     /// A unit is of version 2, 3 or 4.
     Older,
+    /// The operation at fault sets an address of this many bytes, which isn't the address size of its unit.
+    AddressBytes(u64),
     /// The text of an entry is in a section that wasn't given.
     NoStrings(StringSection),
     /// This many live sequences begin at this address, at which linkers leave discarded code. `None` if they weren't
@@ -49,6 +51,8 @@ pub enum Argument {
     Order,
     /// The number of bytes of an address, of `--address-size`.
     AddressSize,
+    /// The address of `--base`.
+    Base,
     /// The percentage of `--at-least`.
     AtLeast,
 }
@@ -68,6 +72,8 @@ pub enum Look {
     Zstd,
     /// A compressed section of an ELF file, with its header.
     CompressedSection,
+    /// A symbol file, of Breakpad or a GSYM file.
+    Symbols,
     /// Text.
     Text,
     /// A section in this byte order, which isn't the one in which it was read.
@@ -129,7 +135,12 @@ impl fmt::Display for Note {
             Note::Word(argument) => f.write_str(rule_of_argument(argument)),
             Note::NotRaw(look) => f.write_str(advice_to_look(look)),
             Note::Older => f.write_str(
-                "linetab upgrade writes units of versions 2 to 4 anew in version 5, which the other words read",
+                "linetab upgrade SECTION --address-size N writes units of versions 2 to 4 anew in version 5, which the other words read; N is how many bytes an address has: 8 in a 64-bit program, 4 in a 32-bit one",
+            ),
+            Note::AddressBytes(count) => write!(
+                f,
+                "the operation there sets an address of {count} bytes; if linetab upgrade wrote the section, \
+                 run it with --address-size {count}"
             ),
             Note::NoStrings(section) => f.write_str(missing_option(section)),
             Note::MaybeDead(count, address) => {
@@ -195,6 +206,7 @@ fn rule_of_argument(argument: Argument) -> &'static str
         Argument::Format => "--format is 32 or 64",
         Argument::Order => "--order is little or big",
         Argument::AddressSize => "--address-size is 2, 4 or 8",
+        Argument::Base => "ADDRESS of --base is 0x and 1 to 16 hexadecimal digits",
         Argument::AtLeast => "P of --at-least is 1 to 3 decimal digits, and at most 100",
     }
 }
@@ -217,6 +229,9 @@ fn advice_to_look(look: Look) -> &'static str
         Look::Zstd => "this looks like a file that zstd compressed; decompress it first",
         Look::CompressedSection => {
             "this looks like a compressed section; objcopy --decompress-debug-sections, with --dump-section, decompresses it"
+        }
+        Look::Symbols => {
+            "this looks like a symbol file; linetab-object check compares one with a program"
         }
         Look::Text => "this looks like text; a section is the raw bytes of .debug_line",
         Look::InOrder(Order::Big) => {

@@ -7,7 +7,8 @@ use Rattle.clap.specs.declared.error.kind.ErrorKind.TheVariants.{OutOfMemory}
 use Rattle.lnt_text.specs.Digits.{IsAddress}
 use Rattle.lnt_words.specs.declared.request.AddressSize.{AddressSize}
 use Rattle.lnt_words.specs.declared.request.Request.{Request}
-use Rattle.lnt_words.specs.Words.{AreAddresses, AreCheckWords, IsAskedIn, IsFlagGiven, IsMarker, IsSize, IsWord}
+use Rattle.lnt_words.specs.Words.{AreAddresses, AreCheckWords, IsAskedIn, IsBase, IsFlagGiven, IsMarker, IsSize}
+use Rattle.lnt_words.specs.Words.{IsWord}
 use Rattle.lnt_words.proofs.WordLemmas.{texts_of}
 use Rattle.std.proofs.lemmas.Grind.{common_steps}
 
@@ -52,6 +53,14 @@ other_name name e = ap (λ (n : Text). get_or n 1 0) (sym e)
 
 pub no_size : (rows : List Row) → ((size : AddressSize) → IsSize rows size → ⊥) → (request : Request) → IsAskedIn (codes "upgrade") rows request → ⊥
 no_size rows none request so = grind (arith, common_steps, other_name, codes)
+
+-- ---- a word that is no base
+
+other_letter : (name : Text) → codes "symbols" ≡ name → get_or name 1 0 ≡ 121
+other_letter name e = ap (λ (n : Text). get_or n 1 0) (sym e)
+
+pub no_base : (rows : List Row) → ((base : ℕ) → IsBase rows base → ⊥) → (request : Request) → IsAskedIn (codes "symbols") rows request → ⊥
+no_base rows none request so = grind (arith, common_steps, other_letter, codes)
 
 -- ---- flags and a percentage that don't fit together
 

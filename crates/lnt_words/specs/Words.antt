@@ -25,7 +25,7 @@ use Rattle.lnt_words.specs.declared.request.Question.TheVariants.{Verify, Lookup
 use Rattle.lnt_words.specs.declared.request.Reading.{Reading}
 use Rattle.lnt_words.specs.declared.request.Reading.TheVariants.{Units, Dump, Convert}
 use Rattle.lnt_words.specs.declared.request.Request.{Request}
-use Rattle.lnt_words.specs.declared.request.Request.TheVariants.{Help, Read, Upgrade, Judge, JudgeWith}
+use Rattle.lnt_words.specs.declared.request.Request.TheVariants.{Help, Read, Upgrade, Symbols, Judge, JudgeWith}
 use Rattle.clap.specs.Lexer.{usize_max}
 use Rattle.clap.specs.Simple.{new_shape}
 use Rattle.clap.specs.declared.builder.action.ArgAction.TheVariants.{Set, Append, SetTrue}
@@ -73,6 +73,10 @@ judging = reading ++ option (codes "line-str") ∷ option (codes "str") ∷ opti
 abbrev pub subcommand : Text → List Rule → Shape
 subcommand name rules = record (new_shape name) { rules = word (codes "SECTION") ∷ rules }
 
+-- the subcommand that reads a symbol file
+abbrev pub symbols : Shape
+symbols = record (new_shape (codes "symbols")) { rules = word (codes "FILE") ∷ option (codes "base") ∷ flag (codes "quiet") ∷ [] }
+
 abbrev pub subcommands : List Shape
 subcommands =
     subcommand (codes "units") reading
@@ -85,6 +89,7 @@ subcommands =
     ∷ subcommand (codes "table") (flag (codes "wide") ∷ flag (codes "paths") ∷ flag (codes "lines") ∷ judging)
     ∷ subcommand (codes "convert") (required (option (codes "format")) ∷ required (option (codes "order")) ∷ reading)
     ∷ subcommand (codes "upgrade") (required (option (codes "address-size")) ∷ option (codes "directories") ∷ reading)
+    ∷ symbols
     ∷ subcommand (codes "md5") judging
     ∷ []
 
@@ -138,6 +143,10 @@ abbrev pub IsSize : List Row → AddressSize → Type 0
 IsSize rows sizes.Two = IsWord rows (codes "address-size") (codes "2")
 IsSize rows sizes.Four = IsWord rows (codes "address-size") (codes "4")
 IsSize rows sizes.Eight = IsWord rows (codes "address-size") (codes "8")
+
+-- the address that --base gives, or 0
+abbrev pub IsBase : List Row → ℕ → Type 0
+IsBase rows base = MatchOption (first_of (codes "base") rows) (base ≡ 0) (λ word. IsAddress word base)
 
 -- the reading of a section that the subcommand of this name asks for
 abbrev pub IsReading : Text → List Row → Reading → Type 0
@@ -208,6 +217,7 @@ IsAskedIn name rows (Read section order reading) =
 IsAskedIn name rows (Upgrade from) =
     (name ≡ codes "upgrade") × IsWord rows (codes "SECTION") from.section.now × IsOrder rows from.order × IsSize rows from.address_size
     × (option_copied from.directories ≡ first_of (codes "directories") rows)
+IsAskedIn name rows (Symbols file base) = (name ≡ codes "symbols") × IsWord rows (codes "FILE") file.now × IsBase rows base
 IsAskedIn name rows (Judge from question) = IsJudging rows from × IsQuestion name rows question
 IsAskedIn name rows (JudgeWith from file (Lines op)) =
     (name ≡ codes "lookup") × IsJudging rows from × IsWord rows (codes "addresses") file.now

@@ -55,7 +55,7 @@ pub(crate) const VERSION: &str = "0.9.0 (rattle-kit-13 logic dac8208d650f15bf)";
 
 // The arguments in these rows: name, kind and help.
 macro_rules! arguments {
-    ($($name:literal => $kind:ident $(($($value:literal),+))?, $help:literal;)*) => {
+    ($($name:literal => $kind:ident $(($($value:literal),+))?, $help:expr;)*) => {
         &[$(ArgumentRule { name: $name, kind: Kind::$kind $(($($value),+))?, help: $help }),*]
     };
 }
@@ -65,7 +65,7 @@ macro_rules! reading {
     ($($more:tt)*) => {
         arguments! {
             "big" => Flag, "The section is big-endian; otherwise it is little-endian";
-            "quiet" => Flag, "Prints no notes on standard error";
+            "quiet" => Flag, QUIET;
             $($more)*
         }
     };
@@ -89,7 +89,7 @@ macro_rules! subcommand {
 }
 
 /// The subcommands, in the order in which help lists them.
-pub(crate) const SUBCOMMANDS: [Subcommand; 10] = [
+pub(crate) const SUBCOMMANDS: [Subcommand; 11] = [
     subcommand! {
         "units" => "Prints the offset, the format and the length of each unit of a section", None, READING;
     },
@@ -134,10 +134,25 @@ pub(crate) const SUBCOMMANDS: [Subcommand; 10] = [
         "address-size" => Required("2|4|8"), "How many bytes an address has in units of versions 2 to 4, which don't say it";
         "directories" => Valued("FILE"), "A file with the compilation directories of these units, or - for standard input";
     },
+    Subcommand {
+        name: "symbols",
+        about: "Prints the address table of a symbol file of Breakpad, as its own reader answers from it",
+        after: Some(BASE),
+        own: arguments! {
+            "FILE" => Word, "The symbol file, or - for standard input";
+            "base" => Valued("ADDRESS"), "Where the first byte of the program lies that the file's addresses count from; 0x0 by default";
+        },
+        shared: arguments! {
+            "quiet" => Flag, QUIET;
+        },
+    },
     subcommand! {
         "md5" => "Compares the files of a section with the MD5 sums that it lists", Some(SUMS), JUDGING;
     },
 ];
+
+// The help of the flag that each subcommand has.
+const QUIET: &str = "Prints no notes on standard error";
 
 // The arguments of a subcommand that reads a section.
 const READING: &[ArgumentRule] = reading! {};
@@ -178,6 +193,12 @@ const OLDER: &str =
 in rising order, the offset in the section as a decimal number and the path. The line 'no 44 directories record R' says the first \
 record that isn't so, 'no 20 too large unit 0xU' the first unit that is longer than its format can say once it is written anew, and \
 the status is 1.";
+
+// What the table of a symbol file is, and the line `no` of `symbols`.
+const BASE: &str =
+    "The table has the path and the line at each address, as table --lines has those of a section, so that check \
+compares the two. The line 'no 45 symbols line L: REASON' says the first line that isn't one of a symbol file, and the status is 1 \
+(docs/TABLES.md).";
 
 // What the words `same`, `differs` and `unreadable` in the lines of `md5` mean.
 const SUMS: &str = "A file is the same, differs, or is unreadable: it can't be opened or read. \

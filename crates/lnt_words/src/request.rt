@@ -30,6 +30,13 @@ pub enum Request<'a> {
     },
     /// The section with its older units written anew in version 5.
     Upgrade(Upgrading<'a>),
+    /// The address table of a symbol file.
+    Symbols {
+        /// The file.
+        file: &'a str,
+        /// The address at which its address 0 is loaded.
+        base: u64,
+    },
     /// What a good section says.
     Judge {
         /// The section.

@@ -5,7 +5,7 @@ ghost use Rattle.lnt_words.specs.Described.{IsAskedOfMatches, IsFound, rows_in};
 ghost use Rattle.lnt_text.specs.Digits.{IsAddress};
 ghost use Rattle.lnt_words.specs.Words.{AreAddresses, AreAddressesIn, ArePositionsIn, AskForNothing, IsAskedBy, IsAskedIn, IsAskedOf};
 ghost use Rattle.lnt_words.specs.Words.{IsFlagGiven, IsHelp, IsJudging, IsNoYes, IsOp, IsOrder, IsPercentageIn, IsQuestion, IsReading};
-ghost use Rattle.lnt_words.specs.Words.{IsSize, IsWord};
+ghost use Rattle.lnt_words.specs.Words.{IsBase, IsSize, IsWord};
 ghost use Rattle.lnt_words.specs.Words.{IsWrittenFormat, IsWrittenOrder, Asked as AskedSpec};
 ghost use Rattle.lnt_words.specs.declared.request.Judging.{Judging as JudgingSpec};
 ghost use Rattle.lnt_words.specs.declared.request.Request.{Request as RequestSpec};
@@ -142,6 +142,7 @@ fn request_in<'a>(
         }
         "convert" => convert_in(alloc, words),
         "upgrade" => upgrade_in(alloc, words),
+        "symbols" => symbols_in(alloc, words),
         "check" => check_in(alloc, words, given),
         "lookup" => lookup_in(alloc, words, given),
         "verify" => judge_in(alloc, words, Question::Verify),
@@ -367,6 +368,25 @@ fn size_in(alloc: Global, words: &ArgMatches<'_>) -> Result<AddressSize, WordsSt
         "4" => Ok(AddressSize::Four),
         "8" => Ok(AddressSize::Eight),
         word => Err(bad_word(alloc, words, word, Argument::AddressSize)),
+    }
+}
+
+fn symbols_in<'a>(alloc: Global, words: &ArgMatches<'a>) -> Result<Request<'a>, WordsStop>
+    ensures { IsFound (IsAskedIn (codes "symbols") (rows_in words.now)) result }
+{
+    Ok(Request::Symbols {
+        file: word_in(alloc, words, "FILE")?,
+        base: base_in(alloc, words)?,
+    })
+}
+
+// The base that the words give, or 0.
+fn base_in(alloc: Global, words: &ArgMatches<'_>) -> Result<u64, WordsStop>
+    ensures { IsFound (IsBase (rows_in words.now)) result }
+{
+    match str_in(words, "base") {
+        Some(word) => address_of(alloc, words, word, Argument::Base),
+        None => Ok(0),
     }
 }
 

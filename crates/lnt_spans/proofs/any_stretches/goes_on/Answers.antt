@@ -3,7 +3,8 @@ use Rattle.lnt_spans.specs.Runs.{IsAheadAt, IsUpTo}
 use Rattle.lnt_spans.proofs.PositionLaws.{at_most_itself, below_is_at_most}
 use Rattle.lnt_spans.proofs.RunLaws.{both_fewer}
 use Rattle.lnt_spans.proofs.SideLemmas.{side_on, side_run}
-use Rattle.lnt_spans.proofs.StretchLemmas.{both_move, ended_last, kept_last, nothing_from, other_last, step_answered, step_counted, step_told}
+use Rattle.lnt_spans.proofs.StretchLemmas.{both_move, ended_last, kept_last, nothing_from, other_last, step_answered, step_counted}
+use Rattle.lnt_spans.proofs.StretchLemmas.{step_told}
 use Rattle.lnt_spans.proofs.any_stretches.goes_on.Goals as goal
 
 pub returns-in_default-clause-on : goal.returns-in_default-clause-on
@@ -64,7 +65,8 @@ returns-clause-given g c f f' told h =
     let le = below_is_at_most moves.below in
     let same = rw c.if-not-branch.false at c.in_ok-are_as_before.ensures.same in
     record {
-      section = side_on (IsAheadAt g.S.SpanSource.to_come) (λ answer. answer) tell own.section c.pass_to-2.new.self own.at end f h.section le
+      section =
+          side_on (IsAheadAt g.S.SpanSource.to_come) (λ answer. answer) tell own.section c.pass_to-2.new.self own.at end f h.section le
           (λ values at. c.pass_to-2.ensures.at own.at values at le (subst (IsUpTo end) c.run_at-section.ensures.end c.in-Some.ensures.0));
       table = side_on g.N.Runs.is_at g.N.Runs.value_of said own.table c.pass_to.new.self own.at end f' h.table le
           (λ values at. c.pass_to.ensures.at own.at values at le (subst (IsUpTo end) c.run_at-table.ensures.end c.in-Some.ensures.1));

@@ -36,7 +36,8 @@ returns-clause-given g c from f f' told h =
     c.in-Some.ensures in
     let le = below_is_at_most moves.below in (
       record {
-        section = side_on (IsAheadAt g.S.SpanSource.to_come) (λ answer. answer) tell own.section c.pass_to.new.self own.at end f h.section le
+        section =
+            side_on (IsAheadAt g.S.SpanSource.to_come) (λ answer. answer) tell own.section c.pass_to.new.self own.at end f h.section le
             (λ values at. c.pass_to.ensures.at own.at values at le (subst (IsUpTo end) c.run_at-section.ensures.end c.in-Some.ensures.0));
         table = side_on within g.N.Runs.value_of said own.table own.table own.at end f' h.table le
             (λ values s. followed g.N.Runs.is_at g.N.Runs.value_of said run from own.table f' own.at end values le c.in-Some.ensures.1 s);

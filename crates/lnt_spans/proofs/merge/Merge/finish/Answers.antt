@@ -20,7 +20,8 @@ returns g c spans by_table m =
       | then-is_some w ↦ let none : None ≡ Some c.in-Some.span = sym w.next-is ∙ c.in-Some.is in absurd cc
       | else-is_some w ↦
           found_more g.S.SpanSource.to_come (g.T.Telling.tell c.args.telling.now) g.T.Telling.value_of c.args.self spans by_table
-          c.in-Some.span c.match-gap.gap c.add_between.new.count c.count_rest-missed.result c.sum-2.result w.if-is_some.ensures (sym w.next-is ∙ c.in-Some.is)
+          c.in-Some.span c.match-gap.gap c.add_between.new.count c.count_rest-missed.result c.sum-2.result w.if-is_some.ensures
+          (sym w.next-is ∙ c.in-Some.is)
           (elim c.match-gap.branch [
             | in-Some-gap v ↦ inl (v.in-Some-gap.is ∙ ap Some (sym v.gap-is))
             | in-None+in_ok-gap-in-None v ↦ inr (v.in-None.is, ap g.T.Telling.value_of v.gap-is ∙ v.in_ok-gap-in-None.ensures)

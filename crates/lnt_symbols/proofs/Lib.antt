@@ -1,0 +1,6 @@
+pub mod CutLemmas
+pub mod FieldLemmas
+pub mod FileLemmas
+pub mod KeptLemmas
+pub mod PieceLemmas
+pub mod TreeLemmas

@@ -1,0 +1,73 @@
+-- What the values of the code say.
+use Rattle.std.specs.Prelude.{◌≡◌, ◌+◌, ◌-◌, ◌<◌, ◌≤◌, ℕ, List, [], Option, Some, None, Err, IsSome, Contains, drop, map}
+use Rattle.std.specs.BTreeMap.{BTreeMap, get}
+use Rattle.std.specs.List.{AllByRecursion}
+use Rattle.std.specs.Ordering.{nat_cmp}
+use Rattle.std.specs.Borrow.{Bor}
+use Rattle.lnt_symbols.specs.BreakpadLines.{lines_of, Range, RecordSaid, file_said, function_said, line_said, public_said, nothing_said}
+use Rattle.lnt_symbols.specs.BreakpadAnswers.{end_of, FunctionSaid, lines_before, records_of}
+use Rattle.lnt_symbols.specs.declared.breakpad.file.RecordsStop.{RecordsStop}
+use Rattle.lnt_symbols.specs.declared.breakpad.file.RecordsStop.TheVariants.{Fault, Memory}
+use Rattle.lnt_symbols.specs.declared.breakpad.function.Function.{Function as CodeFunction}
+use Rattle.lnt_symbols.specs.declared.breakpad.record.Record.{Record}
+use Rattle.lnt_symbols.specs.declared.breakpad.record.Record.TheVariants.{File, Function, Line, Public, Nothing}
+
+abbrev pub said_of : Record → RecordSaid
+said_of (File number name) = file_said number name.now
+said_of (Function range) = function_said range
+said_of (Line line) = line_said line
+said_of Public = public_said
+said_of Nothing = nothing_said
+
+-- the lines after one that has an end; none after one that has none
+abbrev pub lines_left : Option (Bor (List ℕ)) → List (List ℕ)
+lines_left None = []
+lines_left (Some rest) = lines_of rest.now
+
+-- Why there are no records. Want of memory says nothing of the file.
+abbrev pub IsStop : List ℕ → RecordsStop → Type 0
+IsStop bytes (Fault fault) = records_of bytes ≡ Err fault
+IsStop bytes Memory = Unit {0}
+
+-- ---- kept ranges, as far as they are known
+
+-- This is the last address of the ranges, or there are none.
+abbrev pub IsTheLast : {X : Type 0} → (X → Range) → Option ℕ → List X → Type 0
+IsTheLast range None those = those ≡ []
+IsTheLast range (Some last) those = AllByRecursion (λ y. end_of (range y) ≤ last + 1) those
+
+-- The range begins above the address, if there is one.
+abbrev pub IsAbove : Option ℕ → Range → Type 0
+IsAbove None range = Unit {0}
+IsAbove (Some last) range = last < range.address
+
+-- the last address at a first one
+abbrev pub last_at : BTreeMap ℕ ℕ → ℕ → Option ℕ
+last_at tree first = get nat_cmp tree first
+
+-- The tree has the last address of each of these ranges at its first address, and nothing else. None is empty, and no two have an address
+-- in common.
+pub record AreInTree (tree : BTreeMap ℕ ℕ) (those : List Range) : Type 0 where
+  pub each : (y : Range) → Contains those y → (last_at tree y.address ≡ Some (end_of y - 1)) × (0 < y.size)
+  pub only : (first last : ℕ) → last_at tree first ≡ Some last → (y : Range) × Contains those y × (y.address ≡ first) × (end_of y
+      ≡ last + 1)
+  pub filled : (first last : ℕ) → last_at tree first ≡ Some last → first ≤ last
+  pub apart : (first last other : ℕ) → last_at tree first ≡ Some last → IsSome (last_at tree other) → first < other → last < other
+
+-- ---- functions and names
+
+-- what a function says of its file's records
+abbrev pub function_said_of : List Record → CodeFunction → FunctionSaid
+function_said_of records f = record { range = f.range; lines = lines_before (map said_of (drop f.next records)) }
+
+-- a name that is known, else another
+abbrev pub known_or : Option (Bor (List ℕ)) → List ℕ → List ℕ
+known_or None rest = rest
+known_or (Some name) rest = name.now
+
+abbrev pub name_or : BTreeMap ℕ (Bor (List ℕ)) → ℕ → List ℕ → List ℕ
+name_or names number rest = known_or (get nat_cmp names number) rest
+
+-- the name with a number, or nothing
+abbrev pub name_at : BTreeMap ℕ (Bor (List ℕ)) → ℕ → List ℕ
+name_at names number = name_or names number []

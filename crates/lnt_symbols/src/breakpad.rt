@@ -1,0 +1,14 @@
+//! Breakpad's symbol files: lines of text that say functions, line records and files.
+
+mod fields;
+mod file;
+mod function;
+mod kept;
+mod line;
+mod names;
+mod pieces;
+mod print;
+mod range;
+mod record;
+
+pub(crate) use print::print_breakpad;

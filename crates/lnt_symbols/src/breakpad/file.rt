@@ -1,0 +1,116 @@
+//! Reads the records of a Breakpad file.
+ghost use Rattle.std.specs.Prelude.{◌≡◌, ◌<◌, ◌≤◌, [], ◌∷◌, ◌++◌, true, length, map, Ok, Err, IfOk, IfErr, IfSome};
+ghost use Rattle.lnt_symbols.specs.Stepping.{IsStop, lines_left, said_of};
+ghost use Rattle.lnt_symbols.specs.BreakpadLines.{lines_from, lines_of};
+ghost use Rattle.lnt_symbols.specs.declared.breakpad.file.RecordsStop.TheVariants.{Fault};
+ghost use Rattle.lnt_symbols.specs.declared.fault.SymbolFault.TheVariants.{Line};
+ghost use Rattle.lnt_symbols.specs.BreakpadAnswers.{is_inside, may_follow, records_of};
+
+use crate::breakpad::line::{has_zero, record_of};
+use crate::breakpad::record::Record;
+use crate::fault::{LineReason, SymbolFault};
+use std::alloc::Global;
+
+// Why no records were read.
+#[derive(Clone, Copy)]
+pub(crate) enum RecordsStop {
+    // The first fault of the file.
+    Fault(SymbolFault),
+    // Memory ran out.
+    Memory,
+}
+
+// Reads the records of a file, but for its first line.
+#[tactic(auto, using(crate::proofs::FileLemmas::records_step))]
+pub(crate) fn read_records<'a>(
+    alloc: Global,
+    bytes: &'a [u8],
+) -> Result<Vec<Record<'a>>, RecordsStop>
+    ensures ok { IfOk result (λ records. records_of bytes.now ≡ Ok (map said_of records.items)) }
+    ensures err { IfErr result (IsStop bytes.now) }
+{
+    let (line, mut rest) = next_line(bytes);
+    if !line.starts_with(b"MODULE ") {
+        return Err(fault_in(1, LineReason::NotASymbolFile));
+    }
+    if has_zero(line) {
+        return Err(fault_in(1, LineReason::ZeroByte));
+    }
+    let mut records = Vec::new(alloc);
+    let mut number = 1;
+    let mut inside = false;
+    while let Some(left) = rest {
+        let (line, after) = next_line(left);
+        number += 1;
+        let record = match record_of(line) {
+            Ok(record) => record,
+            Err(reason) => return Err(fault_in(number, reason)),
+        };
+        if !may_follow(inside, &record) {
+            return Err(fault_in(number, LineReason::NoFunction));
+        }
+        inside = is_inside(inside, &record);
+        if records.push(record).is_err() {
+            return Err(RecordsStop::Memory);
+        }
+        rest = after;
+    }
+    Ok(records)
+}
+
+// The first line, and what stands after its end, if it has one.
+fn next_line<'a>(bytes: &'a [u8]) -> (&'a [u8], Option<&'a [u8]>)
+    ensures lines { lines_of bytes.now ≡ result.0.now ∷ lines_left result.1 }
+    ensures shorter { IfSome result.1 (λ rest. length rest.now < length bytes.now) }
+{
+    for i in 0..bytes.len() {
+        if bytes[i] == b'\n' {
+            return (&bytes[..i], Some(&bytes[i + 1..]));
+        }
+        if bytes[i] == b'\r' {
+            let rest = &bytes[i + 1..];
+            return (&bytes[..i], Some(after_return(rest)));
+        }
+    }
+    (bytes, None)
+}
+
+// What stands after a carriage return: without the line feed that belongs to it.
+fn after_return<'a>(rest: &'a [u8]) -> &'a [u8]
+    ensures lines { lines_from true [] rest.now ≡ lines_of result.now }
+    ensures length { length result.now ≤ length rest.now }
+{
+    if !rest.is_empty() && rest[0] == b'\n' {
+        &rest[1..]
+    } else {
+        rest
+    }
+}
+
+// Whether the record may stand where a function goes on or not.
+fn may_follow(inside: bool, said: &Record<'_>) -> bool
+    ensures { result ≡ may_follow inside (said_of said.now) }
+{
+    match said {
+        Record::Line(_) => inside,
+        _ => true,
+    }
+}
+
+// Whether a function goes on after the record.
+fn is_inside(inside: bool, said: &Record<'_>) -> bool
+    ensures { result ≡ is_inside inside (said_of said.now) }
+{
+    match said {
+        Record::Function(_) => true,
+        Record::Public => false,
+        _ => inside,
+    }
+}
+
+// A line at fault.
+fn fault_in(number: u64, reason: LineReason) -> RecordsStop
+    ensures { result ≡ Fault (Line number reason) }
+{
+    RecordsStop::Fault(SymbolFault::Line(number, reason))
+}

@@ -1,0 +1,36 @@
+//! Prints the address table of a symbol file.
+ghost use Rattle.std.specs.Prelude.{◌-◌, ◌^◌, ◌<◌, ◌⊎◌, IfOk, IfSome, OnErr, IsErrOf};
+ghost use Rattle.std.specs.Io.KnownBytes.{Keeps};
+ghost use Rattle.lnt_io.specs.Stopping.{CountsFailure, IsTooLongOn};
+ghost use Rattle.lnt_symbols.specs.SymbolTables.{BeginsPrinted, HasPrinted, symbol_answers};
+
+use crate::breakpad::print_breakpad;
+use lnt_io::{IoStop, Source, Status, read_all};
+use std::alloc::Global;
+use std::io::Write;
+
+/// Prints the canonical address table by path, in version 4, of what a symbol file answers at each address if its address 0 is loaded at
+/// `base`. If the file isn't a symbol file, it prints the line of its first fault (45), and nothing else.
+///
+/// Returns `Done` if the table is printed, and `No` if that line is. Stops with `Read` only if the source failed, with `TooLong` only if
+/// the source has more bytes than it may give, with `Write` if the writer failed, and with `Memory`. If it stops, nothing has been
+/// written, or a prefix of the table or of that line; after `Read` and `TooLong`, nothing. The caller ensures that the number of the
+/// source's failures is below `u64::MAX`.
+pub fn print_symbols<R: Source, W: Write>(
+    alloc: Global,
+    file: &mut R,
+    base: u64,
+    out: &mut W,
+) -> Result<Status, IoStop>
+    requires { R.failures file.old < 2 ^ 64 - 1 }
+    ensures printed { IfOk result (λ status. IfSome (R.remaining file.old) (λ bytes.
+        HasPrinted (symbol_answers base bytes) (W.contents out.old) (W.contents out.new) status)) }
+    ensures begun { OnErr result (Keeps (W.contents out.old) (W.contents out.new) ⊎ IfSome (R.remaining file.old) (λ bytes.
+        BeginsPrinted (symbol_answers base bytes) (W.contents out.old) (W.contents out.new))) }
+    ensures unread { IsErrOf result IoStop.Read ⊎ IsErrOf result IoStop.TooLong → Keeps (W.contents out.old) (W.contents out.new) }
+    ensures failures { CountsFailure ⟦<R as Source>⟧ file.old file.new result IoStop.Read }
+    ensures too_long { IsTooLongOn ⟦<R as Source>⟧ file.old file.new result IoStop.TooLong }
+{
+    let bytes = read_all(alloc, file)?;
+    print_breakpad(alloc, bytes.as_slice(), base, out)
+}
