@@ -79,6 +79,16 @@ make_folder() { # FOLDER
   (umask 022; mkdir -p "$1") && [ -w "$1" ] || { echo "${0##*/}: nothing can be written to $1" >&2; return 1; }
 }
 
+# The folder in which a prefix lies while a package is made: below DESTDIR, where that is set.
+staged() { # PREFIX
+  [ -n "${DESTDIR:-}" ] && printf '%s/%s' "${DESTDIR%/}" "${1#/}" || printf '%s' "$1"
+}
+
+# How what was put under a prefix is removed again, as a shell reads it.
+uninstall_of() { # PREFIX
+  printf '%s./install --uninstall %q' "${DESTDIR:+$(printf 'DESTDIR=%q ' "$DESTDIR")}" "$1"
+}
+
 # Fails with a line where what is put under a prefix would be in the place of sources, which are read for it.
 not_onto_sources() { # PREFIX
   local place

@@ -226,7 +226,7 @@ done
 more=$'\n\nFor more information, try \'--help\'.\n'
 refuses $'error: unrecognized subcommand \'unit\'\n\n  tip: a similar subcommand exists: \'units\'\n\nUsage: linetab <COMMAND>'"$more" unit F
 refuses $'error: the following required arguments were not provided:\n  <SECTION>\n\nUsage: linetab units <SECTION>'"$more" units
-refuses $'error: \'linetab\' requires a subcommand but one was not provided\n  [subcommands: units, dump, check, verify, lookup, files, table, convert, upgrade, md5, help]\n\nUsage: linetab <COMMAND>'"$more"
+refuses $'error: \'linetab\' requires a subcommand but one was not provided\n  [subcommands: units, dump, check, verify, lookup, files, table, convert, upgrade, symbols, md5, help]\n\nUsage: linetab <COMMAND>'"$more"
 is_bad_word() { # WANTED WORD..: all words are judged before a file is opened
   refuses "linetab: bad word $1"$'\n' "${@:2}"
 }

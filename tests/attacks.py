@@ -1,16 +1,22 @@
-"""Makes good sections of shapes that cost a careless reader much, looks up an address in each, and lists its files. A section
-of four times the size has to take at most 5.3 times the processor time, and many addresses a few times that of one. The memory of each
-word has to stay within four times the bytes that are given and 8 MB, or within what docs/LIMITS.md says of the shape. With the word
---figures it also prints what each took. The last line is 'N passed, M failed'."""
+"""Makes files of shapes that cost a careless reader much, one line of SHAPES each, and bounds what a word takes with them. What is bounded
+by Growth takes at most 5.3 times the processor time at four times the size; what is bounded by Beside, a few times that of a small
+one. The memory of each word stays within four times the bytes that are given and 8 MB, or within what the line says, as docs/LIMITS.md
+does. With the word --figures it also prints what each took; other words choose lines by a part of their names or words. The last line is
+'N passed, M failed'."""
 
+import functools
 import math
 import os
+import shutil
 import struct
 import subprocess
 import sys
 import tempfile
 import time
+import zlib
+from typing import Any, Callable, NamedTuple
 
+import hostile
 from line_writer import PLAIN, leb
 
 PROGRAM = "crates/linetab/out/linetab"
@@ -21,6 +27,8 @@ TURNS, MOST_TURNS, PAUSE = 5, 50, 0.25
 # square takes sixteen times as long.
 MOST_GROWTH = 2.3**2
 MOST_COPIES, OWN_MEMORY = 4, 8 << 20
+# What Python takes itself, with the modules of a script.
+SCRIPT_MEMORY = 24 << 20
 
 ONE_DIRECTORY = bytes([1, 1, 8, 1]) + b"/s\0"
 TWO_FILES = bytes([2, 1, 8, 2, 0x0B, 2]) + b"a\0\0" * 2
@@ -118,13 +126,14 @@ def long_sequence(rows):
 
 
 def addresses_in(rows, count):
-    """So many addresses of the long sequence, in no order."""
-    return ["0x%x" % (0x1000 + place * 7919 % rows) for place in range(1, count + 1)]
+    """A sequence of so many rows, and addresses in it, in no order."""
+    addresses = (b"0x%x" % (0x1000 + place * 7919 % rows) for place in range(1, count + 1))
+    return {"line": long_sequence(rows), "addresses": b"\n".join(addresses)}
 
 
 def many_addresses(count):
     """Addresses of a long sequence, in no order, 64 for each row: so few rows stay in the same caches at each size."""
-    return {"line": long_sequence(count), "addresses": "\n".join(addresses_in(count, 64 * count)).encode()}
+    return addresses_in(count, 64 * count)
 
 
 def columns_of_one_file(count):
@@ -189,204 +198,288 @@ def fields(count, before=b""):
     return {"line": sequences([0]), "table": before + b"," * count + b"\n"}
 
 
-# The whole paths of its files are themselves the square of its bytes.
-LONG_PATHS = "one long directory of many files"
-
-# For each shape the section of a size, the bytes of its strings, and the size.
-SHAPES = {
-    "neighbours exchanged": (lambda count: sequences(place ^ 1 for place in range(count)), None, 200_000),
-    "groups reversed": (lambda count: sequences(place - 2 * (place % 100) + 99 for place in range(count)), None, 200_000),
-    LONG_PATHS: (one_directory, None, 200_000),
-    "one long string of many directories": (one_string, lambda count: b"a" * count + b"\0", 400_000),
-    "many files": (files, None, 300_000),
-    "many directories": (directories, None, 300_000),
-    "many values of a file": (formats, None, 8_000),
-    "many rows": (rows, None, 2_000_000),
-    "many units": (units, None, 20_000),
-}
+# ---- files that the scripts read
 
 
-# For each shape that is slow for some words alone its files of a size, the size, and these words.
-SLOW = {
-    "many files of a long path": (long_paths, 250_000, ["check LINE TABLE"]),
-    "many long directories before a short one": (directories_before, 20_000, ["files LINE"]),
-    "many long names before short ones": (files_before, 160_000, ["table LINE --paths"]),
-    "many addresses of a long sequence": (many_addresses, 5_000, ["lookup LINE --addresses ADDRESSES"]),
-    "columns of a file with a long path": (columns_of_one_file, 400_000, ["check LINE TABLE", "check LINE TABLE --all"]),
-    "two files of a long path": (two_files, 640_000, ["table LINE --lines"]),
-    "many older units": (
-        older_units,
-        60_000,
-        ["upgrade LINE --address-size 8", "upgrade LINE --address-size 8 --directories DIRECTORIES"],
-    ),
-    "many files of an older unit": (older_files, 800_000, ["upgrade LINE --address-size 8"]),
-}
+class Sparse(bytes):
+    """The first bytes of a file whose others are zeros that take no room."""
+
+    whole = 0
 
 
-# For each way to ask for many addresses of a long sequence the rows of the sequence, the addresses, the words, and how many times as
-# long as one address they may take, which is twice what they take. Of 200,000 rows all are kept, of a million not. Where nothing was
-# kept, each address would take as long as one.
-MANY = {
-    "many addresses beside one": (200_000, 20_000, "lookup LINE --addresses ADDRESSES", 3),
-    "many addresses of a very long sequence beside one": (1_000_000, 20_000, "lookup LINE --addresses ADDRESSES", 8),
-    "many addresses among the words beside one": (200_000, 2_000, "lookup LINE ASKED", 4),
-}
+def gsym_rows(count):
+    """A function whose rows have a byte each, of a file with a long path."""
+    strings = b"\0/" + b"s" * 4000 + b"\0a\0f\0"
+    name, table = 4003, bytes([0x7F, 2, 1]) + b"\x0a" * count + b"\0"
+    info = struct.pack("<IIII", 4 * count, name + 2, 1, len(table)) + table + bytes(8)
+    head = struct.pack("<IHBBQIII20xI", 0x4753594D, 1, 4, 0, 0x1000, 1, 76 + len(info), len(strings), 0)
+    return {"gsym": head + struct.pack("<IIIIII", 76, 2, 0, 0, 1, name) + info + strings}
 
 
-# For each shape that takes much memory for a word alone its files of a size, the size, the word, its status, and how many
-# bytes it may take of that size and these bytes given.
-LARGE = {
-    "a note about many files": (overlap_of_many_files, 2_000_000, "verify LINE", 1, lambda size, given: MOST_COPIES * given),
-    "many short sequences": (
-        short_sequences,
-        1_100_000,
-        "verify LINE --skip-copies",
-        0,
-        lambda size, given: MOST_COPIES * given + 128 * size,
-    ),
-    "many short units": (short_units, 140_000, "verify LINE", 0, lambda size, given: MOST_COPIES * given + 1024 * size),
-    # the lines are compared as text, and the table isn't held
-    "a table by path of many lines": (plain_lines, 100_000, "check LINE TABLE", 0, lambda size, given: MOST_COPIES * size),
-    "a header of many fields": (fields, 8_000_000, "check LINE TABLE", 1, lambda size, given: MOST_COPIES * given),
-    **{
-        "a record of many fields, %s, %s" % (names, text): (
-            lambda size, names=names: fields(size, names.encode() + b"\n"),
-            8_000_000,
-            text,
-            1,
-            lambda size, given: MOST_COPIES * given,
-        )
-        for names in ("low,high,path,line", "low,low_op,high,high_op,unit,file,line,column,is_stmt")
-        for text in ("check LINE TABLE", "check LINE TABLE --all")
-    },
-}
+def breakpad_lines(count):
+    """Lines of a function, of a byte each, of a file with a long path."""
+    lines = b"".join(b"%x 1 %d 0\n" % (place, place % 7) for place in range(count))
+    return {"sym": b"MODULE Linux x86_64 0 a\nFILE 0 /%s\nFUNC 0 %x 0 f\n" % (b"s" * 4000, count) + lines}
 
 
-# The words that read no strings, and those that do, with an address at which no sequence begins as that of discarded code.
-BARE = ["units", "dump --ops --rows", "convert --format 32 --order big"]
-WITH_STRINGS = ["verify", "md5", "table", "verify --dead 0x7", "lookup 0x1000 0x7 --dead 0x7", "check TABLE", "check TABLE --dead 0x7"]
-
-# Those whose time is measured too.
-TIMED = ["lookup 0x1000", "files"]
+def breakpad_functions(count):
+    functions = (b"FUNC %x 1 0 f\n%x 1 1 0\n" % (place, place) for place in range(count, 0, -1))
+    return {"sym": b"MODULE Linux x86_64 0 a\nFILE 0 /a\n" + b"".join(functions)}
 
 
-class Files:
-    """Contents in files, by their kind, and the bytes of memory that a word may take with them."""
-
-    def __init__(self, contents, size, folder, most=lambda size, given: MOST_COPIES * given, asked=()):
-        self.bytes = sum(map(len, contents.values()))
-        self.allowed = OWN_MEMORY + most(size, self.bytes)
-        self.names = {kind: os.path.join(folder, "%s%d" % (kind, size)) for kind in contents}
-        self.asked = asked
-        for kind, content in contents.items():
-            with open(self.names[kind], "wb") as file:
-                file.write(content)
-
-    def words(self, text):
-        """The words of a text, with the names of the files, and in the place of ASKED the addresses that are asked for."""
-        words = [self.names.get(word.lower(), word) if word.isupper() else word for word in text.split()]
-        return [*words[:-1], *self.asked] if words[-1] == "ASKED" else words
+def readelf_sequences(count):
+    return {"text": b"CU: a:\n" + b"".join(b"a 1 0x%x\na - 0x%x\n" % (place, place + 1) for place in range(count))}
 
 
-class Given(Files):
-    """A section of a shape and its strings, and later its table."""
+def dumped_files(count):
+    """Many files of a long directory, each with a row."""
+    names = b"".join(b'file_names[%d]:\n           name: "%x"\n' % (place, place) for place in range(count))
+    rows = b"".join(b"0x%08x 1 1 %d 0 0\n" % (place, place) for place in range(count))
+    start = b'debug_line[0x0]\ninclude_directories[  0] = "/%s"\n' % (b"s" * 4000)
+    return {"text": start + names + rows + b"0x%08x 1 1 0 0 0 end_sequence\n" % count}
 
-    def __init__(self, shape, size, folder):
-        make, strings_of, _ = SHAPES[shape]
-        super().__init__({"line": make(size), "strings": strings_of(size) if strings_of else b""}, size, folder)
 
-    def words(self, text):
-        """A word's own words, with the section, and the strings where it reads them."""
-        word, *rest = super().words(text)
-        return [word, self.names["line"], *rest, *([] if text in BARE else ["--line-str", self.names["strings"]])]
+def object_of(*sections):
+    """A program with these sections: the name of each, its bytes, and its size, if that is another."""
+    texts = b"".join(b"\0" + name for name, *_ in sections) + b"\0"
+    return hostile.elf([(texts.index(name), content, size[0] if size else len(content)) for name, content, *size in sections], texts)
 
-    def add_table(self, folder):
-        """Writes the section's table, which then counts as given."""
-        table = os.path.join(folder, "table")
-        with open(table, "wb") as file:
-            subprocess.run([PROGRAM, *self.words("table")], stdout=file, check=True)
-        self.names["table"] = table
-        self.bytes += os.path.getsize(table)
-        self.allowed += MOST_COPIES * os.path.getsize(table)
+
+def sparse_section(size):
+    made = Sparse(object_of((b".debug_line", bytes(16), size)))
+    made.whole = max(len(made), 64 + size)
+    return {"object": made}
+
+
+def info_of_zeros(size):
+    """A unit of version 4, and .debug_info of units of no byte."""
+    return {"object": object_of((b".debug_line", older(b"a\0\0\0\0")), (b".debug_info", bytes(size)))}
+
+
+def packed_section(size):
+    """A section that stands for nearly a hundred times its bytes."""
+    content = sequences(range(size // 16)) * 90
+    packed = struct.pack("<4s", b"ZLIB") + len(content).to_bytes(8, "big") + zlib.compress(content, 9)
+    return {"object": object_of((b".zdebug_line", packed))}
+
+
+# ---- bounds
+
+
+def times(count):
+    """So many times the bytes given."""
+    return lambda size, given: count * given
+
+
+def more_for_each(count):
+    """So many bytes more for each of the size."""
+    return lambda size, given: MOST_COPIES * given + count * size
+
+
+class Memory(NamedTuple):
+    """A word ends with this status, and takes at most so many bytes, by the size and the bytes given, beside its own."""
+
+    most: Callable = times(MOST_COPIES)
+    status: int = 0
+    own: int = OWN_MEMORY
+
+    def fault(self, status, memory, files):
+        if status != self.status:
+            return "status %d" % status
+        if memory > self.own + self.most(files.size, files.bytes):
+            return "%d bytes of memory for %d given" % (memory, files.bytes)
+        return None
+
+    def judged(self, measured, shape, files_of):
+        """What is wrong with what a word takes, if anything, and what it took."""
+        files = files_of(shape.make, shape.size)
+        status, _, memory = taken(measured, files.words(shape.words))
+        return self.fault(status, memory, files), times_given(memory, files)
+
+
+class Growth(NamedTuple):
+    """At four times the size a word takes at most so many times as long."""
+
+    most: float = MOST_GROWTH
+    memory: Memory = Memory()
+
+    def judged(self, measured, shape, files_of):
+        sizes = shape.size // 2, 2 * shape.size
+        return judged_timed(measured, shape.words, [files_of(shape.make, size) for size in sizes], self)
+
+
+class Beside(NamedTuple):
+    """A word takes at most so many times as long as with a size of one."""
+
+    most: float
+    memory: Memory = Memory()
+
+    def judged(self, measured, shape, files_of):
+        return judged_timed(measured, shape.words, [files_of(shape.make, size) for size in (1, shape.size)], self)
 
 
 def taken(measured, words):
     """The status, processor seconds and bytes of memory of the program with these words."""
-    run = subprocess.run([measured, PROGRAM, *words], capture_output=True, text=True)
+    run = subprocess.run([measured, *words], capture_output=True, text=True)
     seconds, kilobytes = run.stdout.split()
     return run.returncode, float(seconds), int(kilobytes) << 10
 
 
-def memory_fault(status, wanted, memory, files):
-    if status != wanted:
-        return "status %d" % status
-    if memory > files.allowed:
-        return "%d bytes of memory for %d given" % (memory, files.bytes)
-    return None
-
-
 def times_given(memory, files):
-    return "%.1f times the bytes given" % (memory / files.bytes)
+    return "%.1f times the bytes given" % (memory / max(files.bytes, 1))
 
 
-def judged_memory(measured, text, files, wanted=0):
-    """What is wrong with the memory of a word, if anything, and what it took."""
-    status, _, memory = taken(measured, files.words(text))
-    return memory_fault(status, wanted, memory, files), times_given(memory, files)
-
-
-def judged_timed(measured, text, small, large, most=MOST_GROWTH):
-    """What is wrong with the time and memory of a word, if anything, and what it took, where the second files may take so many times as
-    long as the first."""
+def judged_timed(measured, text, both, bound):
+    """What is wrong with the time and memory of a word with two files, if anything, and what it took."""
     least = [math.inf, math.inf]
     for turn in range(1, MOST_TURNS + 1):
-        for which, files in enumerate((small, large)):
+        for which, files in enumerate(both):
             status, seconds, memory = taken(measured, files.words(text))
-            figures, fault = times_given(memory, files), memory_fault(status, 0, memory, files)
+            figures, fault = times_given(memory, files), bound.memory.fault(status, memory, files)
             if fault:
                 return fault, figures
             least[which] = min(least[which], seconds)
         if turn >= TURNS:
-            if not 1 < least[1] / (most * least[0]) < 2:
+            if not 1 < least[1] / (bound.most * least[0]) < 2:
                 break
             time.sleep(PAUSE)
     times = "%.3f s and %.3f s, %.2f times as long" % (*least, least[1] / least[0])
-    return times if least[1] > most * least[0] else None, "%s, in %d turns, %s" % (times, turn, figures)
+    return times if least[1] > bound.most * least[0] else None, "%s, in %d turns, %s" % (times, turn, figures)
 
 
-def judged(shape, measured, folder):
-    """Each word with a shape: the word, what it does wrong, or None, and what it took."""
-    count = SHAPES[shape][2]
-    small, given, large = [Given(shape, size, folder) for size in (count // 2, count, 2 * count)]
-    for text in TIMED:
-        if (text, shape) != ("files", LONG_PATHS):
-            yield text, *judged_timed(measured, text, small, large)
-    for text in BARE + WITH_STRINGS:
-        if "TABLE" in text and "table" not in given.names:
-            given.add_table(folder)
-        yield text, *judged_memory(measured, text, given)
+# ---- the table
 
 
-def judged_slow(name, measured, folder):
-    """Each word with a shape that is slow for this word alone, as `judged` gives it."""
-    make, size, texts = SLOW[name]
-    small, large = [Files(make(it), it, folder) for it in (size // 2, 2 * size)]
-    for text in texts:
-        yield text, *judged_timed(measured, text, small, large)
+class Shape(NamedTuple):
+    """A name; the words, in which LINE and others stand for files by their kinds, ASKED for the addresses in one, and OWN for the section's
+    own table; what makes the files of a size; the size; and what bounds the word."""
+
+    name: str
+    words: str
+    make: Any
+    size: int
+    bound: Any
 
 
-def judged_many(name, measured, folder):
-    """A word that asks for many addresses beside one, as `judged` gives it."""
-    rows, count, text, most = MANY[name]
-    line, many = long_sequence(rows), addresses_in(rows, count)
-    one, all_of_them = [Files({"line": line, "addresses": "\n".join(it).encode()}, len(it), folder, asked=it) for it in (many[:1], many)]
-    yield text, *judged_timed(measured, text, one, all_of_them, most)
+def fields_behind(names):
+    return lambda count: fields(count, names.encode() + b"\n")
 
 
-def judged_large(name, measured, folder):
-    """A word with a shape that takes much memory for this word alone, as `judged` gives it."""
-    make, size, text, wanted, most = LARGE[name]
-    yield text, *judged_memory(measured, text, Files(make(size), size, folder, most), wanted)
+def section(make, strings=lambda size: b""):
+    """A maker of a section and of the bytes of its strings."""
+    return lambda size: {"line": make(size), "strings": strings(size)}
+
+
+# Those with which every word is run, and an address at which no sequence begins as that of discarded code.
+EVERY = {
+    "neighbours exchanged": (section(lambda count: sequences(place ^ 1 for place in range(count))), 200_000),
+    "groups reversed": (section(lambda count: sequences(place - 2 * (place % 100) + 99 for place in range(count))), 200_000),
+    "one long directory of many files": (section(one_directory), 200_000),
+    "one long string of many directories": (section(one_string, lambda count: b"a" * count + b"\0"), 400_000),
+    "many files": (section(files), 300_000),
+    "many directories": (section(directories), 300_000),
+    "many values of a file": (section(formats), 8_000),
+    "many rows": (section(rows), 2_000_000),
+    "many units": (section(units), 20_000),
+}
+STR = " --line-str STRINGS"
+WORDS = {
+    **dict.fromkeys(("units LINE", "dump LINE --ops --rows", "convert LINE --format 32 --order big"), Memory()),
+    **dict.fromkeys(("verify LINE" + STR, "md5 LINE" + STR, "table LINE" + STR), Memory()),
+    "verify LINE --dead 0x7" + STR: Memory(),
+    "lookup LINE 0x1000 0x7 --dead 0x7" + STR: Memory(),
+    "check LINE OWN" + STR: Memory(),
+    "check LINE OWN --dead 0x7" + STR: Memory(),
+    "lookup LINE 0x1000" + STR: Growth(),
+    "files LINE" + STR: Growth(),
+}
+# What it prints is itself the square of the section's bytes.
+SQUARE = "one long directory of many files", "files LINE" + STR
+
+NUMBERS, PATHS = "low,low_op,high,high_op,unit,file,line,column,is_stmt", "low,high,path,line"
+IN_SCRIPT = functools.partial(Memory, own=SCRIPT_MEMORY)
+# A name, the words, what makes the files, their size, and what bounds it.
+SHAPES = [
+    *(Shape(name, words, *made, bound) for name, made in EVERY.items() for words, bound in WORDS.items() if (name, words) != SQUARE),
+    Shape("many files of a long path", "check LINE TABLE", long_paths, 250_000, Growth()),
+    Shape("many long directories before a short one", "files LINE", directories_before, 20_000, Growth()),
+    Shape("many long names before short ones", "table LINE --paths", files_before, 160_000, Growth()),
+    Shape("many addresses of a long sequence", "lookup LINE --addresses ADDRESSES", many_addresses, 5_000, Growth()),
+    Shape("columns of a file with a long path", "check LINE TABLE", columns_of_one_file, 400_000, Growth()),
+    Shape("columns of a file with a long path", "check LINE TABLE --all", columns_of_one_file, 400_000, Growth()),
+    Shape("two files of a long path", "table LINE --lines", two_files, 640_000, Growth()),
+    Shape("many older units", "upgrade LINE --address-size 8", older_units, 60_000, Growth()),
+    Shape("many older units", "upgrade LINE --address-size 8 --directories DIRECTORIES", older_units, 60_000, Growth()),
+    Shape("many files of an older unit", "upgrade LINE --address-size 8", older_files, 800_000, Growth()),
+    # Twice what it takes. Of 200,000 rows all are kept, of a million not. Where nothing was kept, each address would take as long as one.
+    Shape("many addresses", "lookup LINE --addresses ADDRESSES", functools.partial(addresses_in, 200_000), 20_000, Beside(3)),
+    Shape("of a very long sequence", "lookup LINE --addresses ADDRESSES", functools.partial(addresses_in, 1_000_000), 20_000, Beside(8)),
+    Shape("many addresses among the words", "lookup LINE ASKED", functools.partial(addresses_in, 200_000), 2_000, Beside(4)),
+    Shape("a note about many files", "verify LINE", overlap_of_many_files, 2_000_000, Memory(status=1)),
+    Shape("many short sequences", "verify LINE --skip-copies", short_sequences, 1_100_000, Memory(more_for_each(128))),
+    Shape("many short units", "verify LINE", short_units, 140_000, Memory(more_for_each(1024))),
+    # The lines are compared as text, and the table isn't held.
+    Shape("a table by path of many lines", "check LINE TABLE", plain_lines, 100_000, Memory(lambda size, given: 4 * size)),
+    Shape("a header of many fields", "check LINE TABLE", fields, 8_000_000, Memory(status=1)),
+    Shape("a record of many fields by number", "check LINE TABLE", fields_behind(NUMBERS), 8_000_000, Memory(status=1)),
+    Shape("a record of many fields by number", "check LINE TABLE --all", fields_behind(NUMBERS), 8_000_000, Memory(status=1)),
+    Shape("a record of many fields by path", "check LINE TABLE", fields_behind(PATHS), 8_000_000, Memory(status=1)),
+    Shape("a record of many fields by path", "check LINE TABLE --all", fields_behind(PATHS), 8_000_000, Memory(status=1)),
+    Shape("rows of a byte and a long path", "linetab-table gsym GSYM", gsym_rows, 20_000, IN_SCRIPT()),
+    Shape("the same by their first rows", "linetab-table gsym-17 GSYM", gsym_rows, 20_000, IN_SCRIPT()),
+    Shape("lines of a long path", "linetab-table breakpad SYM", breakpad_lines, 20_000, IN_SCRIPT(times(16))),
+    Shape("functions", "linetab-table breakpad SYM", breakpad_functions, 40_000, IN_SCRIPT(times(16))),
+    Shape("sequences", "linetab-table readelf TEXT", readelf_sequences, 100_000, IN_SCRIPT(times(16))),
+    Shape("files of a long directory", "linetab-table llvm-dwarfdump TEXT", dumped_files, 20_000, IN_SCRIPT(times(16))),
+    Shape("a sparse section", "linetab-object verify OBJECT", sparse_section, 1 << 30, IN_SCRIPT(status=1)),
+    Shape("a sparse section", "linetab-object verify OBJECT", sparse_section, 1 << 30, Beside(3, IN_SCRIPT(status=1))),
+    Shape("units of no byte", "linetab-object upgrade OBJECT", info_of_zeros, 8 << 20, Beside(4, IN_SCRIPT())),
+    Shape("a packed section", "linetab-object units OBJECT", packed_section, 100_000, IN_SCRIPT()),
+]
+
+
+class Files:
+    """The files of a size, by their kinds."""
+
+    def __init__(self, contents, size, folder):
+        self.size, self.bytes, self.folder = size, sum(map(len, contents.values())), folder
+        os.mkdir(folder)
+        for kind, content in contents.items():
+            with open(os.path.join(folder, kind), "wb") as file:
+                file.write(content)
+                file.truncate(getattr(content, "whole", len(content)))
+
+    def place(self, kind):
+        return os.path.join(self.folder, kind)
+
+    def words(self, text):
+        """The program of a text and its words, with the names of the files in the place of their kinds."""
+        first, *rest = text.split()
+        words = [PROGRAM, first] if not first.startswith("linetab-") else [os.path.join(self.folder, "..", "bin", first)]
+        for word in rest:
+            if word == "ASKED":
+                with open(self.place("addresses")) as file:
+                    words += file.read().split()
+            else:
+                words.append(self.place(word.lower()) if word.isupper() else word)
+        if "OWN" in rest and not os.path.exists(self.place("own")):
+            self.add_table()
+        return words
+
+    def add_table(self):
+        """Writes the section's table, which then counts as given."""
+        with open(self.place("own"), "wb") as file:
+            subprocess.run(self.words("table LINE" + STR), stdout=file, check=True)
+        self.bytes += os.path.getsize(self.place("own"))
+
+
+def installed(folder):
+    """Puts the scripts beside the program, as they are installed."""
+    os.makedirs(os.path.join(folder, "bin"))
+    for name in "linetab-object", "linetab-table":
+        shutil.copy(name, os.path.join(folder, "bin"))
+    shutil.copytree("share/scripts", os.path.join(folder, "share", "linetab", "scripts"))
+    os.symlink(os.path.abspath(PROGRAM), os.path.join(folder, "bin", "linetab"))
 
 
 def main():
@@ -394,18 +487,25 @@ def main():
     with tempfile.TemporaryDirectory() as folder:
         measured = os.path.join(folder, "measured")
         subprocess.run(["cc", "-O2", "-o", measured, "bench/peers/measured.c"], check=True)
-        for judge, shapes in (judged, SHAPES), (judged_slow, SLOW), (judged_many, MANY), (judged_large, LARGE):
-            for shape in shapes:
-                for text, fault, figures in judge(shape, measured, folder):
-                    if "--figures" in sys.argv:
-                        print("%s: %s: %s" % (text, shape, figures), flush=True)
-                    if fault:
-                        failed += 1
-                        print("failed: %s: %s: %s" % (text, shape, fault))
-                    else:
-                        passed += 1
+        installed(folder)
+
+        @functools.lru_cache(maxsize=None)
+        def files_of(make, size):
+            return Files(make(size), size, os.path.join(folder, "%d" % files_of.cache_info().currsize))
+
+        asked = [word for word in sys.argv[1:] if not word.startswith("--")]
+        for shape in [it for it in SHAPES if not asked or any(word in it.words + ": " + it.name for word in asked)]:
+            fault, figures = shape.bound.judged(measured, shape, files_of)
+            if "--figures" in sys.argv:
+                print("%s: %s: %s" % (shape.words, shape.name, figures), flush=True)
+            if fault:
+                failed += 1
+                print("failed: %s: %s: %s" % (shape.words, shape.name, fault))
+            else:
+                passed += 1
     print("%d passed, %d failed" % (passed, failed))
     return 1 if failed else 0
 
 
-sys.exit(main())
+if __name__ == "__main__":
+    sys.exit(main())

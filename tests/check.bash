@@ -1,5 +1,7 @@
 # For the scripts of tests/: runs a command and compares what it writes and its exit status with what is wanted. That python3 is
 # here is taken for granted, since the toolchain's command `rt` is written in it.
+# With ONLY=TEXT before a script, only those cases count whose names have this text. The others run too, since what they make may be
+# needed, but nothing is compared.
 top=$PWD
 . ./sources.bash
 tell_help "tests/${0##*/}" "$@"
@@ -43,6 +45,7 @@ expect_notes() {
 # is_written NAME STATUS GIVEN STDOUT STDERR FILE: what was written, STDERR to the file, and the status that was given.
 is_written() {
   local name=$1 status=$2 given=$3 out=$4 err=$5
+  [[ $name == *"$ONLY"* ]] || return 0
   cat "$6" >"$work/err"
   printf '%s' "$out" >"$work/out.wanted"
   printf '%s' "$err" >"$work/err.wanted"
@@ -60,6 +63,11 @@ is_written() {
 unwritten() { # COMMAND..
   (ulimit -f 0; "$@" 2>&1) | cat >&2
   return "${PIPESTATUS[0]}"
+}
+
+# Runs a command whose standard error is a terminal.
+on_terminal() { # COMMAND..
+  python3 -c 'import os, subprocess, sys; sys.exit(subprocess.run(sys.argv[1:], stderr=os.openpty()[1]).returncode)' "$@"
 }
 
 # Leaves something out, and says why.

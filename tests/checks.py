@@ -1,8 +1,8 @@
-"""What `check` has to print: a slow reference, which compares the two answers between each two borders.
+"""What `check` has to print, with --partial and without: a slow reference, which compares the two answers between each two borders.
 
-    checks.py check SECTION TABLE [--all] [--big] [--line-str FILE] [--str FILE] [--dead ADDRESS] [--skip-copies]
+    checks.py check SECTION TABLE [--partial [--at-least P]] [--all [--ends]] [--big] [--line-str FILE] [--str FILE] [--dead ADDRESS] [--skip-copies]
         prints it, with the exit status that the program has to end with
-    checks.py make FOLDER COUNT SEED [SECTION..]
+    checks.py make [--partial] FOLDER COUNT SEED [SECTION..]
         writes so many cases, as tests/cases/README.md has them, of sections that are picked at random and of these: sections and tables,
         the words, and what has to be printed. The line strings of a section lie beside it, with `_str` after its name
 """
@@ -118,19 +118,43 @@ def quoted(path):
     return "".join(chr(byte) if 0x20 <= byte <= 0x7E and byte not in b'"\\' else "\\x%02x" % byte for byte in path)
 
 
-def stretches(pieces_of):
-    """Each longest run of positions at which the two answers differ and stay the same two: the first position, and the two."""
-    found, end = [], None
+def stretches(pieces_of, partial):
+    """Each longest run of positions at which the two answers differ and stay the same two: the first position, the first one after it,
+    and the two."""
+    found = []
     for low, high, by_table, by_section in pieces_of:
-        if by_table == by_section:
+        if by_table == by_section or partial and by_table is None:
             continue
-        if not (found and end == low and found[-1][1:] == (by_table, by_section)):
-            found.append((low, by_table, by_section))
-        end = high
+        if found and found[-1][1:] == (low, by_table, by_section):
+            low = found.pop()[0]
+        found.append((low, high, by_table, by_section))
     return found
 
 
-def check(section, table, all_stretches):
+def addresses_in(low, high):
+    """How many addresses a there are with (a, 0) from a position on and below another."""
+    first, end = (place[0] + (place[1] > 0) for place in (low, high))
+    return end - first
+
+
+def counts(pieces_of):
+    """At how many addresses both answer, and at how many the section does."""
+    both = whole = 0
+    for low, high, by_table, by_section in pieces_of:
+        if by_section is not None:
+            count = addresses_in(low, high)
+            whole += count
+            both += count if by_table is not None else 0
+    return both, whole
+
+
+def line_40(stretch, ends):
+    low, end, by_table, by_section = stretch
+    place = "0x%x,%d" % low + (" up to 0x%x,%d" % end if ends else "")
+    return "no 40 differs at %s table %s section %s\n" % (place, shown(by_table), shown(by_section))
+
+
+def check(section, table, partial, all_stretches, ends=False, at_least=0):
     """The lines that are printed of the bytes of a table, and the status. The section is a function, which judges it first."""
     try:
         section = section()
@@ -138,14 +162,18 @@ def check(section, table, all_stretches):
     except No as no:
         return "%s\n" % no, 1
     compared = pieces(spans, told_spans(section, version))
-    found = stretches(compared)
+    found = stretches(compared, partial)
     if found:
-        lines = ["no 40 differs at 0x%x,%d table %s section %s\n" % (*low, shown(one), shown(other)) for low, one, other in found]
-        return "".join(lines if all_stretches else lines[:1]), 1
-    return "yes\n", 0
+        return "".join(line_40(stretch, ends) for stretch in (found if all_stretches else found[:1])), 1
+    if not partial:
+        return "yes\n", 0
+    both, whole = counts(compared)
+    few = both * 100 < at_least * whole
+    return ("no 46 " if few else "yes\n") + "answers %d of %d\n" % (both, whole), int(few)
 
 
 # ---- sections for cases
+
 
 @dataclass
 class Given:
@@ -250,7 +278,7 @@ def one_shorter(picked, spans, at):
 
 def one_cut_in_two(picked, spans, at):
     (low, _), (high, _) = spans[at].low, spans[at].high
-    cut = (picked.randrange(low, high + 1), 0)
+    cut = (picked.randrange(min(low, high), max(low, high) + 1), 0)
     return spans[:at] + [replace(spans[at], high=cut), replace(spans[at], low=cut)] + spans[at + 1:]
 
 
@@ -347,7 +375,17 @@ def picked_table(picked, section, version):
 # ---- cases
 
 
-def made_case(picked, sections):
+def picked_options(picked, is_partial):
+    """Whether all stretches are told, whether of a part alone, whether with their ends, and which share is asked for, if one is."""
+    all_stretches = picked.randrange(2) > 0
+    if not is_partial:
+        return all_stretches, False, False, None
+    partial = picked.randrange(6) > 0
+    ends, at_least = all_stretches and picked.randrange(2) > 0, picked.choice((None, None, 0, 1, 50, 99, 100, picked.randrange(101)))
+    return all_stretches, partial, ends, at_least if partial else None
+
+
+def made_case(picked, sections, is_partial):
     """The name, words and files of a case, what has to be printed, and the status."""
     given = picked.choice(sections) if sections and picked.randrange(3) == 0 else picked_section(picked)
     if picked.randrange(12) == 0:
@@ -359,10 +397,12 @@ def made_case(picked, sections):
         table, names = b",".join(VERSIONS[version]) + b"\n", ["bad section"]
     if picked.randrange(20) == 0:
         given, names = broken(picked, given), ["broken"]
-    all_stretches = picked.randrange(2) > 0
-    said, status = check(given.section, table, all_stretches)
+    all_stretches, partial, ends, at_least = picked_options(picked, is_partial)
+    said, status = check(given.section, table, partial, all_stretches, ends, at_least or 0)
     files = {"section.bin": given.data, "table.csv": table}
-    words = ["check", "section.bin", "table.csv", *["--all"] * all_stretches, *given.words]
+    words = ["check", "section.bin", "table.csv", *["--partial"] * partial, *["--all"] * all_stretches, *["--ends"] * ends, *given.words]
+    if at_least is not None:
+        words.append("--at-least=%0*d" % (picked.randrange(1, 4), at_least))
     for option, strings in ("--line-str", given.line), ("--str", given.general):
         if strings:
             words.append("%s=%s.bin" % (option, option[2:]))
@@ -377,10 +417,10 @@ def beside(name):
     return next((given for given in found if given.is_good()), found[0])
 
 
-def make(folder, count, seed, names):
+def make(folder, count, seed, names, is_partial=False):
     picked, sections = random.Random(seed), [beside(name) for name in names]
     for number in range(count):
-        name, words, files, said, status = made_case(picked, sections)
+        name, words, files, said, status = made_case(picked, sections, is_partial)
         write_case(os.path.join(folder, "%06d-%s" % (number, name)), words, files, said.encode(), status)
 
 
@@ -393,12 +433,14 @@ def words():
     checked = words.add_parser("check", allow_abbrev=False)
     for name in "section", "table":
         checked.add_argument(name)
-    for name in "--all", "--big", "--skip-copies", "--quiet":
+    checked.add_argument("--at-least", type=int, default=0)
+    for name in "--partial", "--all", "--ends", "--big", "--skip-copies", "--quiet":
         checked.add_argument(name, action="store_true")
     for name in "--line-str", "--str":
         checked.add_argument(name)
     checked.add_argument("--dead", type=lambda word: int(word, 16))
     made = words.add_parser("make", allow_abbrev=False)
+    made.add_argument("--partial", action="store_true")
     made.add_argument("folder")
     for name in "count", "seed":
         made.add_argument(name, type=int)
@@ -411,13 +453,13 @@ def checked(given):
     strings = Strings(*(held(name) if name else b"" for name in (given.line_str, given.str)))
     data, table = held(given.section), held(given.table)
     section = lambda: Section(data, strings, "big" if given.big else "little", given.dead, given.skip_copies)
-    return check(section, table, given.all)
+    return check(section, table, given.partial, given.all, given.ends, given.at_least)
 
 
 def main():
     given = words().parse_args()
     if given.word == "make":
-        make(given.folder, given.count, given.seed, given.sections)
+        make(given.folder, given.count, given.seed, given.sections, given.partial)
         return
     said, status = checked(given)
     sys.stdout.write(said)

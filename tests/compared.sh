@@ -149,8 +149,8 @@ not_judged() {
     "$(of app "$work/none")$build$none$uncounted\"notes\": [\"No such file or directory (os error 2)\"], \"reason\": \"cannot read $work/none\", \"status\": 3}" \
     check "$work/app" "$work/none"
   (symbols main; echo nonsense) >"$work/broken.sym"
-  reports 'a symbol file that is none' 3 "$(of app "$work/broken.sym")$mine$none$uncounted\"notes\": [], "\
-"\"reason\": \"$work/broken.sym: its line 5 is none of a symbol file of Breakpad, or has no FUNC before it\", \"status\": 3}" \
+  reports 'a symbol file that is none' 1 \
+    "$(of app "$work/broken.sym")$mine"'"answer": "no", "number": 45, "line": "no 45 symbols line 5: not a record", '"$uncounted"'"notes": []}' \
     check "$work/app" "$work/broken.sym"
   mkdir "$work/killed" && cp linetab-object "$work/killed"
   printf '#!/bin/sh\n[ "$2" != --help ] || exec "$work/bin/linetab" "$@"\necho yes\nkill -KILL $$\n' >"$work/killed/linetab"

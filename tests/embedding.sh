@@ -108,7 +108,7 @@ mkdir "$work/cases"
 for archive in tests/cases/{words,copies,checks_by_path}.tar.gz; do
   tar xzf "$archive" -C "$work/cases"
 done
-python3 tests/partial.py make "$work/cases" 300 2 examples/hello*.debug_line || exit 1
+python3 tests/checks.py make --partial "$work/cases" 300 2 examples/hello*.debug_line || exit 1
 expect 'each call tells what the generated cases want' 0 '' '' python3 tests/embedding/cases.py "$work/calls" "$work/cases"
 
 # ---- each caller beside the program, on each good section

@@ -173,6 +173,32 @@ go_relative() {
   tool_says 'a relative path by Go' sub/m.c:1 "$build/sub/m.c:1" "$build/lines" "$build/app" "$at"
 }
 
+asked_before() {
+  local at start unit
+  here 'what addr2line was asked before' c++ nm addr2line || return
+  sources addr2line-before
+  (cd "$build" && for unit in main unit{1..20}; do c++ -g -gdwarf-5 -O1 -DUNIT=$unit -c -o $unit.o unit.cc; done && c++ -o app ./*.o)
+  at=$(printf '0x%x' $(($(address _Z1fi) | 0xff)))
+  start=$(address _start)
+  section_says 'code of many units' "$at" "$build/unit.cc:3" && section_says 'the address before it' "$start" none || return
+  expect 'code of many units by addr2line, alone' 0 "$build/unit.cc:3"$'\n' '' addr2line -e "$build/app" "$at"
+  tool_says 'code of many units by addr2line, after another address' '??:?' "$build/unit.cc:3" \
+    bash -c 'addr2line -e "$@" | tail -n 1' . "$build/app" "$start" "$at"
+}
+
+verified_directory() {
+  local tool
+  here 'a directory that is not there' cc || return
+  sources verify-directory
+  cc -nostdlib -o "$build/app" "$build/dir.s" 2>/dev/null || { skip 'a directory that is not there: dir.s is of x86-64'; return; }
+  expect 'a directory that is not there' 1 $'no 29 directory number unit 0x0 file 0\n' '' "$object" verify "$build/app"
+  [ -n "$(commands llvm-dwarfdump)" ] || skip "llvm-dwarfdump isn't here: a directory that is not there"
+  for tool in $(commands llvm-dwarfdump); do
+    tool_says "a directory that is not there by $tool" 'No errors.' 'Errors detected.' bash -c '"$0" --verify "$1" 2>&1 | tail -n 1' \
+      "$tool" "$build/app"
+  done
+}
+
 gsym_declaration
 gsym_first
 file_one
@@ -182,4 +208,6 @@ dead_code
 by_clang
 whole_name
 go_relative
+asked_before
+verified_directory
 finish

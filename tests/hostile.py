@@ -44,17 +44,25 @@ def wasm(count, rest):
     return out + b"x" * rest
 
 
-FILES = {
-    "elf-names": elf([(1 + k, b"", 0) for k in range(500)], b"\0" + b"n" * 4000000 + b"\0"),
-    "elf-units": elf([(1, bytes(4000000), 4000000)], b"\0.debug_line\0"),
-    "fat-deep": fat(2000, b""),
-    "fat-long": fat(100, bytes(8000000)),
-    "macho-commands": macho(10000),
-    "macho-many": struct.pack("<IIIIIIII", 0xFEEDFACF, 0x1000007, 3, 0xA, 300000, 0, 0, 0) + struct.pack("<II", 0x99, 8) * 300000,
-    "wasm-names": wasm(500, 4000000),
-    "wasm-number": b"\0asm\1\0\0\0\0" + b"\xff" * 300000 + b"\1",
-    "wasm-many": b"\0asm\1\0\0\0" + b"\1\0" * 300000,
-}
-for file_name, made in FILES.items():
-    with open(os.path.join(sys.argv[1], file_name), "wb") as file:
-        file.write(made)
+def files():
+    return {
+        "elf-names": elf([(1 + k, b"", 0) for k in range(500)], b"\0" + b"n" * 4000000 + b"\0"),
+        "elf-units": elf([(1, bytes(4000000), 4000000)], b"\0.debug_line\0"),
+        "fat-deep": fat(2000, b""),
+        "fat-long": fat(100, bytes(8000000)),
+        "macho-commands": macho(10000),
+        "macho-many": struct.pack("<IIIIIIII", 0xFEEDFACF, 0x1000007, 3, 0xA, 300000, 0, 0, 0) + struct.pack("<II", 0x99, 8) * 300000,
+        "wasm-names": wasm(500, 4000000),
+        "wasm-number": b"\0asm\1\0\0\0\0" + b"\xff" * 300000 + b"\1",
+        "wasm-many": b"\0asm\1\0\0\0" + b"\1\0" * 300000,
+    }
+
+
+def main():
+    for name, made in files().items():
+        with open(os.path.join(sys.argv[1], name), "wb") as file:
+            file.write(made)
+
+
+if __name__ == "__main__":
+    main()

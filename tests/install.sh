@@ -17,9 +17,9 @@ words() {
 options() { # [WORD [PROGRAM]]
   "$prefix/bin/${2:-linetab}" $1 --help | sed -nE 's/^ +(-[a-zA-Z], )?(--[a-z0-9-]+).*/\2/p' | sort
 }
-# Those of linetab-object, which has one more.
+# Those of linetab-object, which has three more, and no word about symbol files alone.
 object_words() {
-  { words; echo symbolize; } | sort
+  { words | grep -vx symbols; printf '%s\n' gaps report symbolize; } | sort
 }
 # Both are the same, and not empty.
 same() { # NAME WANTED GIVEN
@@ -27,10 +27,22 @@ same() { # NAME WANTED GIVEN
 }
 
 # The last line of install.
-installed() { # PREFIX
-  echo "install: linetab $(<VERSION) is under $1: the programs in bin, man pages, completions and documents in share; \`./install --uninstall $1\` removes it"
+installed() { # PREFIX [COMMAND]
+  local command=${2:-./install --uninstall $1}
+  echo "install: linetab $(<VERSION) is under $1: the programs in bin, man pages, completions and documents in share; \`$command\` removes it"
 }
 expect 'a prefix' 0 "$(installed "$prefix")"$'\n' '' ./install "$prefix"
+
+# A package is made below DESTDIR, and what is told can be typed.
+staged() {
+  local stage="$work/a stage" quoted="$work/a\\ stage"
+  expect 'below DESTDIR' 0 "$(installed "$stage/a prefix" "DESTDIR=$quoted ./install --uninstall /a\\ prefix")"$'\n' '' \
+    env DESTDIR="$stage" ./install '/a prefix'
+  expect 'the same as under a prefix' 0 '' '' diff -r "$stage/a prefix" "$prefix"
+  expect 'nothing else' 0 $'a prefix\n' '' ls -A "$stage"
+  expect 'removed as it was told' 0 '' '' bash -c 'eval "DESTDIR=$0 ./install --uninstall /a\ prefix" >/dev/null && find "$1" -type f' "$quoted" "$stage"
+  expect 'a prefix with a blank' 0 "$(installed "$work/a b" "./install --uninstall $work/a\\ b")"$'\n' '' env DESTDIR= ./install "$work/a b"
+}
 for words in '' "''" --libary '-- x' 'x y' --library --uninstall '--uninstall --library x'; do
   expect "no prefix: $words" 2 '' $'usage: ./install [--library] PREFIX\n       ./install --uninstall PREFIX\n' unwritten bash -c "./install $words"
 done
@@ -78,6 +90,10 @@ lists() {
   echo mine >"$work/removed/share/man/man1/mine.1"
   # Python keeps what it compiled.
   expect 'its linetab-object' 0 $'yes\n' '' env -u PYTHONDONTWRITEBYTECODE "$work/removed/bin/linetab-object" verify "$work/app"
+  printf '#!/bin/sh\nexec awk %s\n' "'{ print \$1; print \"/w/a.c:3\" }'" >"$work/addr2line" && chmod +x "$work/addr2line"
+  python3 tests/images.py elf64 "$work/code" .debug_line=examples/hello.debug_line code=0x1000,0x8
+  expect 'its linetab-table' 0 $'low,high,path,line\n0x1000,0x1008,/w/a.c,3\n' '' \
+    env -u PYTHONDONTWRITEBYTECODE "$work/removed/bin/linetab-table" points "$work/addr2line" "$work/code"
   expect 'it is uninstalled' 0 "install: removed $(($(find "$prefix" -type f | wc -l) - 1)) files that were put under $work/removed"$'\n' '' \
     ./install --uninstall "$work/removed"
   expect 'but not what was there before' 0 $'bin\nshare\nshare/man\nshare/man/man1\nshare/man/man1/mine.1\n' '' \
@@ -240,14 +256,16 @@ in_zsh() {
 }
 
 release() {
-  local name
+  local name made
   name=linetab-$(<VERSION)-x86_64-linux
+  made=$name.tar.gz$'\n'
+  here 'a package of Debian' dpkg-deb && made+=linetab_$(<VERSION)_amd64.deb$'\n'
   mkdir -p "$work/one" "$work/two" "$work/elsewhere/two" "$work/unpacked"
-  expect 'an archive' 0 "$name.tar.gz"$'\n' '' bash -c './release "$0" | cut -c 67-' "$work/one"
+  expect 'an archive' 0 "$made" '' bash -c './release "$0" | cut -c 67-' "$work/one"
   # GIT_TEST_ASSUME_DIFFERENT_OWNER has git take the folder for another user's.
   expect 'the same by another umask and CDPATH, by options of tar and gzip, and where git refuses the folder' 0 '' '' bash -c 'umask 077
     export CDPATH=$1/elsewhere TAR_OPTIONS=--xattrs GZIP=-1 GIT_TEST_ASSUME_DIFFERENT_OWNER=1
-    cd "$1" && "$0/release" two >/dev/null && cmp "one/$2" "two/$2"' "$top" "$work" "$name.tar.gz"
+    cd "$1" && "$0/release" two >/dev/null && diff -r one two' "$top" "$work"
   for words in "''" - --libary 'x y'; do
     expect "no folder: $words" 2 '' $'usage: ./release [--library] [FOLDER]\n' unwritten bash -c "./release $words"
   done
@@ -272,6 +290,18 @@ release() {
   "${enter[@]}" "$root" /opt/bin/linetab --help >"$work/help" 2>&1 || [ -s "$work/help" ] && ! grep -q '^Usage' "$work/help" &&
     { skip "no other root can be entered"; return; }
   expect 'under a bare root' 0 $'yes\n' '' "${enter[@]}" "$root" /opt/bin/linetab check "${hello[@]}"
+  [[ $made == *.deb* ]] || return
+  debian "$work/one/linetab_$(<VERSION)_amd64.deb" "$work/unpacked/$name"
+  expect 'the package under a bare root' 0 $'yes\n' '' bash -c 'dpkg-deb -x "$0" "$1" && shift && "${@:2}"' "$work/one/linetab_$(<VERSION)_amd64.deb" \
+    "$root" -- "${enter[@]}" "$root" /usr/bin/linetab check "${hello[@]}"
+}
+
+# The package of Debian has the files of the archive, owned by root, and says what it needs.
+debian() { # PACKAGE FOLDER
+  expect 'the package' 0 $'linetab\nlibc6 (>= '"$(sed -n 's/.*GNU C library, version \([0-9.]*\).*/\1/p' "$2/README")"$'), python3 (>= 3.9)\n' '' \
+    bash -c 'for field in Package Depends; do dpkg-deb -f "$0" "$field"; done' "$1"
+  expect 'its files' 0 '' '' bash -c 'dpkg-deb -x "$0" "$1/deb" && diff -r --exclude README "$2" "$1/deb/usr"' "$1" "$work" "$2"
+  expect 'their owner' 0 $'root/root\n' '' bash -c 'dpkg-deb -c "$0" | tr -s " " | cut -d " " -f 2 | sort -u' "$1"
 }
 
 # What the page at the top of the archive says that it needs, and how it is copied and removed.
@@ -303,6 +333,7 @@ helps() {
   expect 'the help of a test' 0 "$(sed -n '2s/^# //p' tests/install.sh)"$'\n' '' bash -c 'tests/install.sh --help | head -n 1'
 }
 
+staged
 in_the_way
 documents
 lists

@@ -75,7 +75,7 @@ plainly() {
 all=$(cd crates && printf '%s\n' */ | grep -cvE '^(lnt_(example|ffi|surface|tests)|linetab)/')
 section=$top/examples/hello.debug_line
 proving=$'linetab: proving and building the program, which takes some minutes the first time
-linetab: meanwhile `rt try -- WORD ..` in WORK/tree/crates/linetab answers in a minute, interpreted and unproved, for files by their whole paths\n'
+linetab: meanwhile `rt try -- WORD ..` in WORK/tree/crates/linetab answers in one to four minutes, interpreted and unproved, for files by their whole paths\n'
 
 without=$'linetab: to prove and build it, put rt on the PATH, the command of the Rattle toolchain (a compiler and prover of Rust with contracts; it is in no package registry: ask whoever gave you these sources)
 linetab: without it, run a release: the archive that ./release makes on a machine with the toolchain\n'

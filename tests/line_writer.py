@@ -11,8 +11,8 @@ from line_section import (ADVANCE_LINE, ADVANCE_PC, CONST_ADD_PC, COPY, DATA, EN
 END = bytes([0, 1, END_SEQUENCE])
 
 # Names of files and of directories, with odd ones among them.
-PATHS = [b"a.c", b"b.h", b"sub/c.c", b"/usr/include/d.h", b'odd "name", and\n\\', b"", b"\xff\xfe"]
-DIRECTORIES = [b"/s", b"/", b"sub", b"", b"/usr/include", b"t/u/"]
+PATHS = [b"a.c", b"b.h", b"sub/c.c", b"/usr/include/d.h", b'odd "name", and\n\\', b"", b"\xff\xfe", b"C:/w/e.c", b"\\\\m\\f.c", b"D:g.c"]
+DIRECTORIES = [b"/s", b"/", b"sub", b"", b"/usr/include", b"t/u/", b"c:\\v", b"\\w", b"Z:/"]
 
 
 def leb(number, padding=0):

@@ -37,7 +37,7 @@ gsym() {
   expect 'a GSYM file that is cut anywhere' 0 $'0\n' '' echo $wrong
   refuses 'no GSYM file' "it isn't a GSYM file" gsym tests/makers.sh
   (head -c 4 "$work/little"; bytes 02; tail -c +6 "$work/little") >"$work/two"
-  refuses 'a GSYM file of another version' 'it is a GSYM file of version 2, of which nothing is known here' gsym "$work/two"
+  refuses 'a GSYM file of another version' 'GSYM version 2 is not supported' gsym "$work/two"
   python3 tests/gsym_file.py little "$work/shared" 20000
   expect 'a line table that many functions share' 3 '' "$says $work/shared: it is cut or damaged"$'\n' \
     timeout 60 "$work/bin/linetab-table" gsym "$work/shared"
@@ -120,8 +120,10 @@ END
   local lines=$'0x1010,0x1014,/w/a.c,3,1\n0x1014,0x101c,"/w/s ""q""\303\244/b.h",5,2\n'
   expect 'what llvm-dwarfdump prints' 0 "$four"$'0x0,0x8,/w/a.c,7,1\n0x1000,0x1010,/w/a.c,8,9\n'"$lines" '' \
     table llvm-dwarfdump --skip-copies "$work/llvm"
-  expect 'without dead code' 0 "$four"$'0x1000,0x1010,/w/a.c,8,9\n0x1000,0x1010,/w/a.c,88,9\n'"$lines" '' \
-    table llvm-dwarfdump "$work/llvm" --dead 0x0
+  expect 'without dead code' 0 "$four"$'0x1000,0x1010,/w/a.c,8,9\n'"$lines" '' table llvm-dwarfdump "$work/llvm" --dead 0x0 --skip-copies
+  refuses 'sequences that overlap' \
+    'sequences overlap in it at 0x1000: --skip-copies leaves out copies, and --dead ADDRESS those that the linker discarded' \
+    llvm-dwarfdump "$work/llvm"
   head -n 20 "$work/llvm" >"$work/broken"
   refuses 'what is cut' 'it ends within a sequence: it is cut' llvm-dwarfdump "$work/broken"
   sed 's/^0x0000000000001014      4      2      1/0x0000000000001014      4      2      9/' "$work/llvm" >"$work/broken"
@@ -161,8 +163,77 @@ END
   refuses 'what has cut names' 'names are cut in it: let readelf print it with --wide' readelf "$work/broken"
   head -n 9 "$work/readelf" >"$work/broken"
   refuses 'what is cut' 'it ends within a sequence: it is cut' readelf "$work/broken"
+  sed 's/0x2000\[0\]/0x101f/' "$work/readelf" >"$work/broken"
+  refuses 'sequences that overlap in the text' \
+    'sequences overlap in it at 0x101f: --skip-copies leaves out copies, and --dead ADDRESS those that the linker discarded' \
+    readelf "$work/broken"
   refuses 'what is none' "it isn't what readelf --wide --debug-dump=decodedline prints of a program with a line number section" \
     readelf /dev/null
+}
+
+lines() {
+  printf '0x1014 0x101C /w/a.c:4\r\n\n1010 C:/x y:12\n \t1011 C:/x y:12  \n0X1012 ??:0\n0x1013 s.c:?\n101c 1020 /w/a.c:4\n0x1030 /w/"q", c:7 (discriminator 2)\n' \
+    >"$work/lines"
+  local wanted=$'0x1010,0x1012,C:/x y,12\n0x1014,0x1020,/w/a.c,4\n0x1030,0x1031,"/w/""q"", c",7\n'
+  expect 'lines' 0 "$three$wanted" '' table lines "$work/lines"
+  expect 'lines from a pipe' 0 "$three$wanted" '' bash -c 'cat "$work/lines" | table lines -'
+  (cat "$work/lines"; echo '1014 1018 /w/a.c:4:9') >"$work/more"
+  expect 'lines with a column' 0 "$four$(sed 's/$/,0/' <<<"${wanted%$'\n'}")"$'\n' \
+    "$says note: left out, as they overlap one before: 1 line"$'\n' table lines "$work/more"
+  expect 'lines without answers' 0 "$three" '' table lines - <<<'0x1012 ??:?'
+  refuses 'no line' 'it has no line: what should have written it failed, or wrote nothing' lines /dev/null
+  printf '0x1010 /w/a.c:4\n0x1014 /w/a.c:1' >"$work/broken"
+  refuses 'a line that is cut' 'its last line, 2, has no end: it is cut' lines "$work/broken"
+  wrong_line '0x10 /w/a.c' '"/w/a.c" in place of PATH:LINE or PATH:LINE:COLUMN'
+  wrong_line '0x10 /w/a.c:-3' '"/w/a.c:-3" in place of PATH:LINE or PATH:LINE:COLUMN'
+  wrong_line '0x10' 'nothing in place of PATH:LINE or PATH:LINE:COLUMN'
+  wrong_line 'main /w/a.c:3' '"main" in place of an address, which is 1 to 16 hexadecimal digits, with 0x or without'
+  wrong_line '0x10 0xf /w/a.c:3' '"0xf" in place of an address that isn'"'"'t below the one before it'
+  wrong_line 'ffffffffffffffff /w/a.c:3' '"ffffffffffffffff" in place of an address with another one above'
+  iconv -t UTF-16LE "$work/lines" >"$work/broken"
+  sed -i '1s/^/\xff\xfe/' "$work/broken"
+  refuses 'lines in UTF-16' "it is UTF-16, and has to be UTF-8: iconv -f UTF-16 -t UTF-8 $work/broken" lines "$work/broken"
+  refuses 'a section' 'it is no text' lines examples/hello.debug_line
+  refuses 'lines for another maker' "it is lines of addresses, paths and line numbers: linetab-table lines $work/lines" gsym "$work/lines"
+}
+wrong_line() { # LINE REASON
+  printf '0x1010 /w/a.c:4\n%s\n' "$1" >"$work/broken"
+  refuses "the line $1" "its line 2 has $2" lines "$work/broken"
+}
+
+# What standard error is changes neither the table nor the status.
+streams() {
+  local wanted=$three$'0x1000,0x1004,/w/a.c,3\n0x1004,0x1006,"/w/b, c.h",18446744073709551\n0x1008,0x1010,/w/a.c,4\n'
+  wanted+=$'0x1010,0x1014,/w/a.c,9\n0x1014,0x1018,/w/a.c,10\n'
+  (cat "$work/sym"; printf 'FUNC 1008 20 0 other\n1008 20 77 0\n') >"$work/noted"
+  expect 'a note' 0 "$wanted" "$says note: left out, as they overlap one before: 1 function"$'\n' table breakpad "$work/noted"
+  expect 'a note on a closed standard error' 0 "$wanted" '' bash -c 'table breakpad "$work/noted" 2>&-'
+  expect 'a note on a full one' 0 "$wanted" '' bash -c 'table breakpad "$work/noted" 2>/dev/full'
+  expect 'a note on a terminal' 0 "$wanted" '' on_terminal "$work/bin/linetab-table" breakpad "$work/noted"
+  expect 'a refusal on a closed standard error' 3 '' '' bash -c 'table breakpad "$work/broken" 2>&-'
+  expect 'a refusal on a full one' 3 '' '' bash -c 'table breakpad "$work/broken" 2>/dev/full'
+  expect 'a refusal on a terminal' 3 '' '' on_terminal "$work/bin/linetab-table" breakpad "$work/broken"
+  expect 'wrong words on a full one' 2 '' '' bash -c 'table breakpad 2>/dev/full'
+  expect 'an answer of points, on a closed one' 0 "$three"$'0x1000,0x1008,/w/a.c,3\n' '' \
+    bash -c 'table points "$work/tools/plain-addr2line" "$work/small" 2>&-'
+}
+
+# Nothing is written where the table isn't whole, and no status is that of a no.
+short_of() {
+  local memory file status wrong=0
+  expect 'no room for the table' 3 '' "$says the table can't be written to a temporary file: File too large"$'\n' \
+    unwritten "$work/bin/linetab-table" breakpad "$work/sym"
+  # Python itself takes 12 MB to start.
+  for ((memory = 13000; memory <= 20000; memory += 500)); do
+    (ulimit -v $memory; exec "$work/bin/linetab-table" breakpad "$work/sym") >"$work/out" 2>"$work/err"
+    status=$?
+    case $status in
+      0) cmp -s "$work/out" <(table breakpad "$work/sym") || wrong=$((wrong + 1)) ;;
+      4) [ "$(<"$work/err")" = "$says out of memory" ] && [ ! -s "$work/out" ] || wrong=$((wrong + 1)) ;;
+      *) wrong=$((wrong + 1)) ;;
+    esac
+  done
+  expect 'little memory' 0 $'0\n' '' echo $wrong
 }
 
 # A program that answers each address of its input by ANSWERS, a program of awk.
@@ -181,6 +252,11 @@ points() {
     table points "$work/tools/eu-addr2line" "$work/app"
   answerer llvm-symbolizer-99 'a < "1004" { print "/w/a.c:3:5"; print "" } a >= "1004" { print "??:0:0"; print "" }'
   expect 'points by llvm-symbolizer' 0 "$four"$'0x1000,0x1004,/w/a.c,3,5\n' '' table points "$work/tools/llvm-symbolizer-99" "$work/app"
+  answerer mine 'a < "1004" { print "/w/a.c:3:5"; print "" } a >= "1004" { print "??:0:0"; print "" }'
+  expect 'points by another command' 0 "$four"$'0x1000,0x1004,/w/a.c,3,5\n' '' \
+    table points "$work/tools/mine" "$work/app" --like llvm-symbolizer
+  expect 'points by one that is like another' 0 "$three"$'0x1002,0x1005,/w/a:b.c,7\n0x1005,0x1006,/w/a.c,0\n' '' \
+    bash -c 'cp "$work/tools/addr2line" "$work/tools/my-symbolizer"; table points "$work/tools/my-symbolizer" "$work/app" --like addr2line'
   answerer bad-addr2line 'a < "1004" { print "/w/a.c:3" } a >= "1004" { print "what?" }'
   refuses_points 'an answer that is none' bad-addr2line "its answer isn't as it should be"
   printf '#!/bin/sh\necho "no such day" >&2\n' >"$work/tools/bad-addr2line"
@@ -192,6 +268,11 @@ points() {
   python3 tests/images.py elf64 "$work/app" .debug_line=examples/hello.debug_line code=0x1000,0x7000000000000000
   expect 'more code than a file has' 3 '' "$says $work/app: it has no code, or more than a file of its size has"$'\n' \
     table points "$work/tools/addr2line" "$work/app"
+}
+# A program of eight bytes of code, and a command that answers for each of them alike.
+plain_points() {
+  python3 tests/images.py elf64 "$work/small" .debug_line=examples/hello.debug_line code=0x1000,0x8
+  answerer plain-addr2line '{ print "/w/a.c:3" }'
 }
 refuses_points() { # NAME COMMAND REASON
   expect "$1" 3 '' "$says $work/app: $work/tools/$2 doesn't answer of each address: $3"$'\n' table points "$work/tools/$2" "$work/app"
@@ -215,7 +296,7 @@ whole_paths() {
 }
 
 words() {
-  local makers='gsym, gsym-17, breakpad, llvm-dwarfdump, readelf, points' maker text
+  local makers='gsym, gsym-17, breakpad, llvm-dwarfdump, readelf, lines, points' maker text
   expect 'no words' 2 '' "$says one of $makers is wanted first: linetab-table MAKER FILE [OPTIONS..]"$'\n' table
   expect 'another maker' 2 '' "$says one of $makers is wanted first: linetab-table MAKER FILE [OPTIONS..]"$'\n' table gdb file
   expect 'no file' 2 '' "$says linetab-table gsym FILE: no more and no less is wanted"$'\n' table gsym
@@ -223,7 +304,13 @@ words() {
   expect 'an option of another maker' 2 '' "$says --base is for breakpad"$'\n' table readelf a --base 0x0
   expect 'no address' 2 '' "$says argument --dead: an address is 0x and 1 to 16 hexadecimal digits, and 12 isn't"$'\n' \
     table readelf a --dead 12
-  expect 'another command' 2 '' "$says gdb: COMMAND is an addr2line, eu-addr2line or llvm-symbolizer, and named so"$'\n' table points gdb app
+  expect 'a bad option with an escape' 2 '' "$says unrecognized arguments: "'--\x1b[31mred'$'\n' table gsym file $'--\e[31mred'
+  expect 'another command' 2 '' "$says gdb: COMMAND is an addr2line, eu-addr2line or llvm-symbolizer, and named so, or --like says which"$'\n' \
+    table points gdb app
+  expect 'a command like none' 2 '' \
+    "$says argument --like: COMMAND answers like addr2line, eu-addr2line or llvm-symbolizer, and not like gdb"$'\n' \
+    table points gdb app --like gdb
+  expect 'like for another maker' 2 '' "$says --like is for points"$'\n' table lines file --like addr2line
   expect 'a file that is not there' 3 '' "$says none: cannot read it: No such file or directory"$'\n' table gsym none
   expect 'a folder' 3 '' "$says tests: cannot read it: Is a directory"$'\n' table breakpad tests
   expect 'help' 0 $'usage: linetab-table MAKER FILE [OPTIONS..]\n' '' bash -c 'table --help | grep usage'
@@ -236,6 +323,7 @@ words() {
   done
   expect 'the options of breakpad' 0 $'--base\n--help\n--paths-of\n--quiet\n' '' options_of breakpad
   expect 'the options of readelf' 0 $'--dead\n--help\n--paths-of\n--quiet\n--skip-copies\n' '' options_of readelf
+  expect 'the options of points' 0 $'--help\n--like\n--paths-of\n--quiet\n' '' options_of points
   expect 'no version behind a maker' 2 '' "$says unrecognized arguments: --version"$'\n' table gsym file --version
   ln -s "$PWD/crates/linetab/out/linetab" "$work/bin/linetab"
   for text in --version -V; do
@@ -299,13 +387,61 @@ is_right() { # NAME TOOL PROGRAM COMMAND
     bash -c "$4"' 2>/dev/null | ./linetab-object check "$0" - --skip-copies --quiet' "$3"
 }
 
+# A program by mingw, with paths as compilers on Windows write them.
+of_windows() {
+  local compiler=x86_64-w64-mingw32-gcc app=$work/windows/app.exe at
+  here 'a program with paths of Windows' $compiler nm || return
+  mkdir -p "$work/windows/inc"
+  printf '%s\n' '__attribute__((noinline)) static int count(int n) {' '  return n * n;' '}' >"$work/windows/inc/w.h"
+  printf '%s\n' '#include <w.h>' 'int start(int n) { return count(n) + 1; }' >"$work/windows/main.c"
+  (cd "$work/windows" && $compiler -g -gdwarf-5 -O1 "-fdebug-prefix-map=$PWD=C:/build" -I"$PWD/inc" -nostdlib -Wl,-e,start -o app.exe main.c) &&
+    ./linetab-object verify "$app" >"$work/err" 2>&1 || { skip "$compiler makes no program with DWARF 5"; return; }
+  at=0x$(nm "$app" | awk '$3 == "count" { print $1 }')
+  expect 'a path of Windows by lookup' 0 $'path "C:/build/inc/w.h"\n' '' \
+    bash -c './linetab-object lookup "$@" --quiet | grep -o "path .*"' . "$app" "$at"
+  expect 'a path of Windows by symbolize' 0 $'C:\\app.exe+0x1000 C:/build/inc/w.h:2:12\n' '' \
+    bash -c 'echo "C:\\app.exe+$1" | ./linetab-object symbolize "$0" --quiet' "$app" 0x1000
+  is_right 'paths of Windows by llvm-dwarfdump' llvm-dwarfdump "$app" 'llvm-dwarfdump --debug-line "$0" | ./linetab-table llvm-dwarfdump -'
+  is_right 'paths of Windows by llvm-symbolizer' llvm-symbolizer "$app" './linetab-table points llvm-symbolizer "$0"'
+  ! here 'a path of Windows by llvm-symbolizer' llvm-symbolizer || expect 'a path of Windows by llvm-symbolizer' 0 $'C:/build/inc/w.h:2:12\n' '' \
+    bash -c 'llvm-symbolizer --functions=none --no-inlines --obj="$0" "$1" | head -n 1' "$app" "$at"
+}
+
+# Commands of docs/TABLES.md, by their first word: what they print is right.
+of_page() { # TOOL NAME
+  local command
+  here "$2" "$1" || return
+  command=$(sed -n '/^### Lines of any tool/,/^## /p' docs/TABLES.md | grep -E "(^|; )$1 ")
+  expect "$2" 0 $'yes\n' '' bash -c 'cd "$0" && bash -c "$1" 2>/dev/null </dev/null | "$2/linetab-table" lines - |
+    "$2/linetab-object" check app - --partial --at-least 1 --quiet | head -n 1' "$work/page" "$command" "$PWD"
+}
+lines_of_tools() {
+  local folder=$work/page
+  here 'lines of tools' cc || return
+  mkdir -p "$folder"
+  printf '%s\n' 'static int twice(int n) {' '  return n + n;' '}' 'int main(int n, char **words) {' '  while (--n)' '    n -= twice(n);' \
+    '  return n;' '}' >"$folder/a b.c"
+  (cd "$folder" && cc -g -gdwarf-5 -O0 -o app "a b.c") && ./linetab-object table --lines "$folder/app" --quiet >"$work/out" 2>"$work/err" ||
+    { skip 'lines of tools: cc makes no program with DWARF 5'; return; }
+  sed '1d; s/,.*//' "$work/out" >"$folder/addresses"
+  of_page gdb 'lines of gdb'
+  of_page lldb 'lines of lldb'
+  of_page objdump 'lines of objdump'
+}
+
 gsym
 breakpad
+plain_points
+streams
+short_of
 llvm_dwarfdump
 readelf_text
+lines
 points
 whole_paths
 words
 [ -n "$(compgen -c llvm-gsymutil)" ] || skip "llvm-gsymutil isn't here: what it answers of GSYM files"
 programs
+of_windows
+lines_of_tools
 finish

@@ -125,6 +125,21 @@ standard_input() {
 file before it was stripped; its build id is 00112233445566778899"$'\n' bash -c 'cat "$0" | object verify -' "$work/app"
 }
 
+# Where memory is short the answer is whole or none, and no status is that of a no. Python itself takes 12 MB to start.
+little_memory() {
+  local memory status wrong=0
+  for ((memory = 13000; memory <= 22000; memory += 1000)); do
+    (ulimit -v $memory; object table "$work/elf64") >"$work/out" 2>"$work/err"
+    status=$?
+    case $status in
+      0) cmp -s "$work/out" <(object table "$work/elf64") || wrong=$((wrong + 1)) ;;
+      4) grep -qx 'linetab\(-object\)\?: out of memory' "$work/err" || wrong=$((wrong + 1)) ;;
+      *) wrong=$((wrong + 1)) ;;
+    esac
+  done
+  expect 'little memory' 0 $'0\n' '' echo $wrong
+}
+
 # Files that are written whole, or not at all.
 outputs() {
   local no=$'no 25 malformed at 0x0: truncated\n'
@@ -216,13 +231,13 @@ elsewhere() {
     expect "folders of $word" 2 '' "error: $used, and no folders, which -r is for"$'\n\n'"$(object "${word%% *}" --help |
       grep '^Usage: ')"$'\n\nFor more information, try \'--help\'.\n' object $word
   done <<END
-check -r|check takes one FILE and SYMBOLS
-check $work/elf64 examples/hello.csv --recursive|check takes one FILE and SYMBOLS
+gaps -r|gaps takes one FILE and SYMBOLS
+report $work/elf64 examples/hello.csv --recursive|report takes one FILE and SYMBOLS..
 lookup -r $work/elf64 0x0|lookup takes one FILE and ADDRESS..
 convert -r|convert takes one FILE
 symbolize $work/elf64 -r|symbolize takes one FILE
 END
-  for word in units dump lookup files table convert md5 upgrade symbolize; do
+  for word in units dump lookup files table convert md5 upgrade symbolize gaps report; do
     expect "JSON of $word" 2 $'1\n' '' bash -c 'object "$1" "$0" --json 2>"$0.said" </dev/null; status=$?
       grep -c "^error: $1 takes .*, and no --json, which is for check and verify$" "$0.said"; exit $status' "$work/elf64" "$word"
   done
@@ -399,13 +414,13 @@ once() {
     object verify "$work/dead"
   (echo ldc version) >"$work/said" && image elf64 dead .debug_line="$work/old4" z:.debug_info="$work/said" damaged
   expect_notes 'a note that no damaged section gives' 1 $'no 25 malformed at 0x4: version 4\n' \
-    $'linetab: note: linetab upgrade writes units of versions 2 to 4 anew in version 5, which the other words read\n' \
+    $'linetab: note: linetab upgrade SECTION --address-size N writes units of versions 2 to 4 anew in version 5, which the other words read; N is how many bytes an address has: 8 in a 64-bit program, 4 in a 32-bit one\n' \
     object verify "$work/dead"
 }
 
 versions() {
   local hint='linetab reads DWARF 5 alone: without --no-older it is upgraded first; to build it anew:'
-  local assembled="compile with -gdwarf-5, by gcc with -Wa,--gdwarf-5 too, as it is the assembler's; as itself takes --gdwarf-5"
+  local assembled="compile with -gdwarf-5; with gcc also -Wa,--gdwarf-5, since the assembler writes the section (as: --gdwarf-5)"
   python3 - "$work/old" <<'END'
 import struct, sys
 name = sys.argv[1]
@@ -447,7 +462,7 @@ The Glorious Glasgow Haskell Compilation System 9.0.2|ghc takes -opta-Wa,--gdwar
 camlStd_exit__entry|ocamlopt has no option for version 5
 Swift version 6.0.3|swiftc takes -dwarf-version=5
 Go cmd/compile go1.19.8|Go writes version 5 from release 1.25 on
-GNU AS 2.40|compile with -gdwarf-5, by gcc with -Wa,--gdwarf-5 too, as it is the assembler's; as itself takes --gdwarf-5
+GNU AS 2.40|compile with -gdwarf-5; with gcc also -Wa,--gdwarf-5, since the assembler writes the section (as: --gdwarf-5)
 END
   cat examples/hello.debug_line "$work/old4" >"$work/mixed"
   echo 'clang LLVM (rustc version 1.95.0)' >"$work/said"
@@ -651,6 +666,7 @@ streams() {
   expect 'a closed standard error' 0 "$table" '' bash -c 'object table "$0" 2>&-' "$work/elf64"
   expect 'a closed standard error, and a note' 0 "$left" '' bash -c 'object verify "$0" 2>&-' "$work/dead"
   expect 'a full standard error, and a note' 0 "$left" '' bash -c 'object verify "$0" 2>/dev/full' "$work/dead"
+  expect 'a terminal as standard error, and a note' 0 "$left" '' on_terminal "$work/bin/linetab-object" verify "$work/dead"
   expect 'a full standard error, and a refusal' 3 '' '' bash -c 'object verify "$0" 2>/dev/full' "$work/nothing"
   expect 'a closed standard error, and a refusal' 3 '' '' bash -c 'object verify "$0" 2>&-' "$work/nothing"
   expect 'a closed standard output' 3 '' "$says cannot write"$'\n' bash -c 'object table "$0" >&-' "$work/elf64"
@@ -724,6 +740,7 @@ words
 usage
 standard_input
 outputs
+little_memory
 inputs
 elsewhere
 several

@@ -8,7 +8,7 @@ note="$says note:"
 offsets='offsets of units are those of the upgraded section, which linetab-object upgrade prints'
 one="$note its unit of version 4 was upgraded to version 5: $offsets"$'\n'
 stays="$note no compilation directory is known of its unit, so relative paths stay relative, as src/a.c"$'\n'
-anew="compile with -gdwarf-5, by gcc with -Wa,--gdwarf-5 too, as it is the assembler's; as itself takes --gdwarf-5"
+anew="compile with -gdwarf-5; with gcc also -Wa,--gdwarf-5, since the assembler writes the section (as: --gdwarf-5)"
 
 # A folder with the script, its modules and the program alone, as they are installed.
 mkdir -p "$work/bin" "$work/share/linetab"

@@ -11,13 +11,14 @@ there=$work/there
 declare -A elsewhere=(
   [./test]='it runs this script'
   ['./library PREFIX']='tests/embedding.sh runs it'
+  ["find store -name '*.debug' | parallel --sshlogin one,two --wd . 'linetab-object check --json {} {.}.csv' >answers.json"]='tests/hosts.sh runs it'
   ['cc -IPREFIX/include app.c PREFIX/share/linetab/linetab_heap.c -LPREFIX/lib -llinetab']='tests/embedding.sh compiles so'
 )
 # The page whose commands aren't: tests/found.sh runs them, each where its sources are, with whatever versions of the tools are here.
 not_run=docs/FOUND.md
 # Tools that commands need, and the files that they make, which later commands read.
 declare -A makes=(
-  [parallel]=tables.log [dump_syms]= [llvm-gsymutil]=app.gsym [llvm-dwarfdump]= [eu-addr2line]=
+  [parallel]=tables.log [dump_syms]= [llvm-gsymutil]=app.gsym [llvm-dwarfdump]= [eu-addr2line]= [gdb]= [lldb]= [objdump]= [perf]= [go]=
 )
 
 # A tool that a command needs, or that makes the file which it reads, isn't here.

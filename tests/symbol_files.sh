@@ -100,6 +100,8 @@ shares() {
   expect_notes 'enough for a share' 0 $'yes\nanswers 35 of 101\n' "$missing" check "$work/app" "$work/some.sym" --at-least 34
   expect_notes 'the whole program' 1 $'no 40 differs at 0x1129,0 table none section "/w/src/small/a.c",1\n' '' check "$work/app" "$work/some.sym" --whole
   expect_notes 'the whole of all' 0 $'yes\n' '' check "$work/app" "$work/app.sym" --whole
+  expect 'the whole and a part' 2 '' $'error: --whole and --partial exclude one another\n\nUsage: linetab-object check [OPTIONS] <FILE> <SYMBOLS>\n\nFor more information, try \'--help\'.\n' \
+    check "$work/app" "$work/app.sym" --whole --partial
   symbols $mine 0 >"$work/none.sym"
   expect_notes 'a file that answers nothing' 1 $'no 46 answers 0 of 101\n' \
     "$says note: 101 of 101 addresses with lines aren't in $work/none.sym: main 66 bytes, twice 20, square 15"$'\n' check "$work/app" "$work/none.sym"
@@ -148,8 +150,10 @@ kinds() {
   expect_notes 'no such file' 3 '' "linetab: cannot read $work/nothing"$'\n'"linetab: note: No such file or directory (os error 2)"$'\n' \
     check "$work/app" "$work/nothing"
   sed 's/^FUNC .*main$/FUNC what/' "$work/app.sym" >"$work/broken.sym"
-  expect 'a broken symbol file' 3 '' "$says $work/broken.sym: its line 4 is none of a symbol file of Breakpad, or has no FUNC before it"$'\n' \
-    check "$work/app" "$work/broken.sym"
+  expect_notes 'a broken symbol file' 1 $'no 45 symbols line 4: not a record\n' '' check "$work/app" "$work/broken.sym"
+  expect_notes 'a broken one, with --map' 1 $'no 45 symbols line 4: not a record\n' '' check "$work/app" "$work/broken.sym" --map /a=/b
+  head -c 40 examples/hello.debug_line >"$work/cut" && python3 tests/images.py elf64 "$work/faulty" .debug_line="$work/cut" || exit 1
+  expect 'a broken section first' 1 $'no 25 malformed at 0x0: truncated\n' '' bash -c 'check "$@" --any-build 2>/dev/null' - "$work/faulty" "$work/broken.sym"
 }
 
 gsym() {

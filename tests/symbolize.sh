@@ -37,6 +37,7 @@ texts 'a backtrace of the C library' './app(f+0x1137) [0x1137]\n./app(+0x1137) [
   "./app(f+0x1137) [0x1137 $at]\n./app(+0x1137 $at) [0x55d01137]\n"
 texts 'one of AddressSanitizer' '    #0 0x55d01137 in f (/tmp/app+0x1137) (BuildId: 00112233)\n' \
   "    #0 0x55d01137 in f (/tmp/app+0x1137 $at) (BuildId: 00112233)\n"
+texts 'a program of Windows' 'C:\\tmp\\app.exe+0x1137 app.exe+0x1137\n' "C:\\\\tmp\\\\app.exe+0x1137 $at app.exe+0x1137\n"
 texts 'one of gdb' '#1  0x0000000000001137 in f (n=1137) at a.c:1137\n' "#1  0x0000000000001137 $at in f (n=1137) at a.c:1137\n"
 texts 'one of the kernel' '[<0000000000001137>] f+0x1137/0x1140\n' "[<0000000000001137 $at>] f+0x1137/0x1140\n"
 texts 'a script of perf' '        1137 f+0x1137 (/tmp/app)\n\tffffffff81001137 g ([k])\n' \

@@ -1,15 +1,20 @@
 """The bytes of a file, read within bounds, so that no few bytes of it cost much."""
 
 import errno
-import mmap
+import gc
+import io
 import os
 import stat
 import struct
 
 PIECE = 1 << 20  # bytes that are read, unpacked and written at once
+PAGE = 1 << 14  # bytes that are kept of a file where some of them are read
+MOST_PAGES = 64
+MOST_OPEN = 100  # files, before those that nothing has any longer are looked for
 LONGEST = 64  # bytes that are read of a section's name; those that are asked for have fewer
 MOST = 1 << 16  # sections, load commands or units that are gone through
 DAMAGED = "its headers reach past the end of the file, or aren't whole: it is cut or damaged"
+CUT_MEANWHILE = "it was cut while it was read"
 # Why there is no file at a place where one may be. Any other reason is the machine's.
 ABSENT = {errno.ENOENT, errno.ENOTDIR, errno.ELOOP, errno.ENAMETOOLONG, errno.EACCES}
 
@@ -33,6 +38,120 @@ class Failure(Exception):
     def __init__(self, text, name=None):
         super().__init__(text)
         self.name = name
+
+
+def failure(text, error):
+    """Why the system refused something: that memory ran out, or a text in which its reason stands."""
+    return MemoryError() if error.errno == errno.ENOMEM else Failure(text % error.strerror)
+
+
+def reason_of(fault):
+    """Why nothing was answered, and the exit status."""
+    if isinstance(fault, MemoryError) or isinstance(fault, OSError) and fault.errno == errno.ENOMEM:
+        return "out of memory", 4
+    if isinstance(fault, (Refusal, Failure)):
+        return str(fault), 3
+    if isinstance(fault, OSError):
+        return "cannot read it: %s" % fault.strerror, 3
+    # Python's own status would be 1, which is that of a no.
+    return "cannot read it, by a fault of this program: %r" % fault, 3
+
+
+class Stored:
+    """The bytes of an open regular file, read where they are asked for: where the file is cut meanwhile, that is told. A map of it would
+    end this program by a signal then."""
+
+    count = 0  # of those that are open
+
+    def __init__(self, descriptor):
+        if Stored.count >= MOST_OPEN:
+            gc.collect()
+        self.descriptor = os.dup(descriptor)
+        Stored.count += 1
+        self.size, self.pages = os.fstat(self.descriptor).st_size, {}
+
+    def __del__(self):
+        if hasattr(self, "descriptor"):
+            os.close(self.descriptor)
+            Stored.count -= 1
+
+    def __len__(self):
+        return self.size
+
+    def __getitem__(self, key):
+        if isinstance(key, int):
+            return self.page(key // PAGE)[key % PAGE]
+        start, end, _ = key.indices(self.size)
+        first = start // PAGE
+        if start < end <= (first + 1) * PAGE:
+            return self.page(first)[start - first * PAGE : end - first * PAGE]
+        return self.read(start, end - start) if start < end else b""
+
+    def page(self, number):
+        """A page of the file, of which some are kept."""
+        found = self.pages.get(number)
+        if found is None:
+            if len(self.pages) == MOST_PAGES:
+                self.pages.clear()
+            found = self.pages[number] = self.read(number * PAGE, max(0, min(PAGE, self.size - number * PAGE)))
+        return found
+
+    def read(self, at, size):
+        """So many bytes, which were there when the file was opened."""
+        piece = os.pread(self.descriptor, size, at)
+        if len(piece) == size:
+            return piece
+        pieces = [piece]
+        while piece and (size := size - len(piece)):
+            at += len(piece)
+            piece = os.pread(self.descriptor, size, at)
+            pieces.append(piece)
+        if size:
+            raise Failure(CUT_MEANWHILE)
+        return b"".join(pieces)
+
+    def find(self, byte, start, end):
+        """Where a byte stands first between two offsets, or -1."""
+        while start < end:
+            stop = min(end, (start // PAGE + 1) * PAGE)
+            found = self[start:stop].find(byte)
+            if found >= 0:
+                return start + found
+            start = stop
+        return -1
+
+    def extents(self, start, end):
+        """Where the file has bytes between two offsets. All others are zeros, and take no room."""
+        while start < end:
+            try:
+                start = os.lseek(self.descriptor, start, os.SEEK_DATA)
+                stop = os.lseek(self.descriptor, start, os.SEEK_HOLE)
+            except OSError as error:
+                if error.errno == errno.ENXIO:  # there is none behind
+                    break
+                stop = end
+            if start < end:
+                yield start, min(stop, end)
+            start = stop
+        if os.fstat(self.descriptor).st_size < end:
+            raise Failure(CUT_MEANWHILE)
+
+
+class Raw(io.RawIOBase):
+    """A part of a file, from which lines can be read."""
+
+    def __init__(self, part):
+        super().__init__()
+        self.part, self.at = part, 0
+
+    def readable(self):
+        return True
+
+    def readinto(self, room):
+        piece = self.part.part(self.at, len(room))
+        room[: piece.size] = piece.take(0, piece.size)
+        self.at += piece.size
+        return piece.size
 
 
 class Part:
@@ -81,6 +200,19 @@ class Part:
         for offset in range(0, self.size, PIECE):
             yield self.take(offset, min(PIECE, self.size - offset))
 
+    def without_holes(self):
+        """The same, but for all but a few of the bytes that take no room in the file, which are zeros."""
+        if not isinstance(self.whole, Stored):
+            yield from self.pieces()
+            return
+        for start, end in self.whole.extents(self.start, self.start + self.size):
+            first = max(0, start - self.start - LONGEST)
+            yield from self.part(first, end - self.start + LONGEST - first).pieces()
+
+    def lines(self):
+        """The lines of it, each with its end."""
+        return io.BufferedReader(Raw(self), PAGE)
+
 
 def place_of(status):
     """By what a regular file is known, whatever its names; None if it is no regular file."""
@@ -91,17 +223,11 @@ def place_of(status):
 files_read = set()
 
 
-def mapped(descriptor):
-    """The bytes of an open regular file, where they lie."""
-    status = os.fstat(descriptor)
-    files_read.add(place_of(status))
-    size = status.st_size
-    try:
-        return Part(mmap.mmap(descriptor, size, access=mmap.ACCESS_READ) if size else b"", 0, size)
-    except OSError as error:
-        if error.errno == errno.ENOMEM:
-            raise MemoryError from None
-        raise
+def stored(descriptor):
+    """The bytes of an open regular file."""
+    files_read.add(place_of(os.fstat(descriptor)))
+    whole = Stored(descriptor)
+    return Part(whole, 0, whole.size)
 
 
 def opened(path):
@@ -110,7 +236,7 @@ def opened(path):
         raise Refusal("it is no regular file: write what it gives into one")
     descriptor = os.open(path, os.O_RDONLY)
     try:
-        return mapped(descriptor)
+        return stored(descriptor)
     finally:
         os.close(descriptor)
 

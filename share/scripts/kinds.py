@@ -7,17 +7,20 @@ from scripts.object.image import READERS
 HEAD = 1 << 12  # bytes that tell it
 
 # Those that a maker reads are named as the maker is.
-BREAKPAD, GSYM, LLVM, READELF, PROGRAM, TABLE = "breakpad", "gsym", "llvm-dwarfdump", "readelf", "points", "table"
+BREAKPAD, GSYM, LLVM, READELF, LINES = "breakpad", "gsym", "llvm-dwarfdump", "readelf", "lines"
+PROGRAM, TABLE = "points", "table"
 NAMES = {
     BREAKPAD: "a symbol file of Breakpad",
     GSYM: "a GSYM file",
     LLVM: "what llvm-dwarfdump --debug-line prints",
     READELF: "what readelf --debug-dump=decodedline prints",
+    LINES: "lines of addresses, paths and line numbers",
     PROGRAM: "a program",
     TABLE: "an address table",
 }
 MAGICS = ((b"MODULE ", BREAKPAD), (b"MYSG", GSYM), (b"GSYM", GSYM))
 PRINTS = ((b".debug_line contents:", LLVM), (b"debug_line[0x", LLVM), (b"Contents of the .debug_line section:", READELF))
+A_LINE = re.compile(r"[ \t]*(?:0[xX])?[0-9a-fA-F]{1,16}[ \t].*[^ \t]:[0-9]{1,19}[ \t]*")
 MARK = b"\xef\xbb\xbf"  # of UTF-8
 SEPARATORS = ",;\t|"
 
@@ -29,10 +32,12 @@ def kind_of(head):
     kind = next((kind for magic, kind in MAGICS if head.startswith(magic)), None)
     if kind:
         return kind
-    names = {name.strip().lower() for name in fields(first_line(head))}
+    first = first_line(head)
+    names = {name.strip().lower() for name in fields(first)}
     if {"low", "high"} <= names and names & {"path", "file"}:
         return TABLE
-    return next((kind for text, kind in PRINTS if text in head), None)
+    kind = next((kind for text, kind in PRINTS if text in head), None)
+    return kind or (LINES if A_LINE.fullmatch(first) else None)
 
 
 def first_line(head):
@@ -76,4 +81,5 @@ OF_PROGRAM = {
     "breakpad": "dump_syms %s | linetab-table breakpad -",
     "llvm-dwarfdump": "llvm-dwarfdump --debug-line %s | linetab-table llvm-dwarfdump -",
     "readelf": "readelf --wide --debug-dump=decodedline %s | linetab-table readelf -",
+    "lines": "linetab-table points addr2line %s asks one about each address of its code",
 }

@@ -14,9 +14,19 @@ listener = None
 def shown(name):
     """A name as it may reach a terminal: between quotes if it has control characters."""
     name = os.fsdecode(name)
-    if all(character.isprintable() or "\udc80" <= character <= "\udcff" for character in name):
-        return name
-    return '"%s"' % "".join(c if c.isprintable() else "".join("\\x%02x" % byte for byte in os.fsencode(c)) for c in name)
+    return name if is_plain(name) else '"%s"' % escaped(name)
+
+
+def is_plain(text):
+    """Whether a terminal is told nothing by a text but what it shows."""
+    return all(character.isprintable() or "\udc80" <= character <= "\udcff" for character in text)
+
+
+def escaped(text):
+    """A text as it may reach a terminal: with digits in the place of control characters."""
+    if is_plain(text):
+        return text
+    return "".join(c if c.isprintable() else "".join("\\x%02x" % byte for byte in os.fsencode(c)) for c in text)
 
 
 def put_error(content):

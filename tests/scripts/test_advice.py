@@ -66,7 +66,7 @@ class Advice(unittest.TestCase):
         question.options["--address-size"] = ["4"]
         text, same = advice(line, question)
         self.assertTrue(text.startswith("units were upgraded for addresses of 4 bytes, and "), text)
-        self.assertEqual(same, ())
+        self.assertEqual(same, ("the operation there sets an address ",))
 
     def test_compilers_in_all_sections(self):
         self.assertIsNone(compiler_of(Question(b"").image))

@@ -1,10 +1,11 @@
+import io
 import os
 import tempfile
 import unittest
 
 from made import part
 from scripts import bounded
-from scripts.bounded import DAMAGED, MOST, Refusal, few, found_in, leb, mapped, opened
+from scripts.bounded import CUT_MEANWHILE, DAMAGED, MOST, PAGE, Failure, Refusal, few, found_in, leb, opened, stored
 
 
 class Parts(unittest.TestCase):
@@ -76,12 +77,65 @@ class Files(unittest.TestCase):
 
     def test_an_empty_file(self):
         with tempfile.TemporaryFile() as file:
-            self.assertEqual(mapped(file.fileno()).size, 0)
+            data = stored(file.fileno())
+            self.assertEqual((data.size, data.whole[:5], list(data.lines()), list(data.pieces())), (0, b"", [], []))
+            with self.assertRaises(IndexError):
+                data.whole[0]
 
     def test_no_other_file_is_opened(self):
         with self.assertRaisesRegex(Refusal, "no regular file"):
             opened("/dev/null")
         self.assertIsNone(bounded.place_of(os.stat("/dev/null")))
+
+
+    def test_all_of_a_file_can_be_read_at_any_place(self):
+        content = bytes(range(256)) * 200 + b"\n" + b"x" * PAGE + b"\nend"
+        with tempfile.TemporaryFile() as file:
+            file.write(content)
+            file.flush()
+            data = stored(file.fileno())
+            for start, end in ((0, 5), (PAGE - 2, PAGE + 2), (PAGE, 2 * PAGE), (PAGE - 1, 3 * PAGE), (len(content) - 3, len(content) + 9)):
+                self.assertEqual(data.whole[start:end], content[start:end])
+            self.assertEqual([data.whole[k] for k in (0, 255, PAGE, len(content) - 1)], [0, 255, content[PAGE], ord("d")])
+            self.assertEqual(data.whole.find(b"e", PAGE, len(content)), content.index(b"e", PAGE))
+            self.assertEqual(data.whole.find(b"e", len(content) - 2, len(content)), -1)
+            self.assertEqual(list(data.lines()), list(io.BytesIO(content)))
+            self.assertEqual(b"".join(data.part(3, PAGE).lines()), content[3 : 3 + PAGE])
+
+    def test_one_that_is_cut_meanwhile(self):
+        with tempfile.TemporaryFile() as file:
+            file.truncate(8 * PAGE)
+            data = stored(file.fileno())
+            data.take(0, 1)
+            file.truncate(4)
+            for read in (lambda: data.take(2 * PAGE, 3), lambda: data.whole[8 * PAGE - 1], lambda: data.whole.find(b"x", PAGE, 8 * PAGE),
+                         lambda: list(data.pieces()), lambda: list(data.whole.extents(0, 8 * PAGE)), lambda: list(data.part(PAGE, 9).lines())):
+                with self.assertRaisesRegex(Failure, CUT_MEANWHILE):
+                    read()
+
+    def test_where_a_file_has_bytes(self):
+        with tempfile.TemporaryFile() as file:
+            file.truncate(1 << 24)
+            os.pwrite(file.fileno(), b"some", 1 << 22)
+            whole = stored(file.fileno()).whole
+            found = list(whole.extents(5, 1 << 24))
+            self.assertTrue(any(start <= 1 << 22 and end > (1 << 22) + 3 for start, end in found))
+            self.assertEqual(list(whole.extents((1 << 22) + 1, (1 << 22) + 3)), [((1 << 22) + 1, (1 << 22) + 3)])
+            self.assertLessEqual(sum(end - start for start, end in found), 1 << 24)
+            pieces = list(stored(file.fileno()).part(7, 1 << 23).without_holes())
+            self.assertEqual(found_in(pieces, [bytes(9) + b"some" + bytes(9)]), {bytes(9) + b"some" + bytes(9)})
+            self.assertLess(sum(map(len, pieces)), 1 << 20)
+
+    def test_files_that_nothing_has_are_closed(self):
+        class Round:
+            def __init__(self, data):
+                self.data, self.round = data, self
+
+        before = len(os.listdir("/proc/self/fd"))
+        with tempfile.TemporaryFile() as file:
+            for _ in range(3 * bounded.MOST_OPEN):
+                Round(stored(file.fileno()))
+        self.assertLess(len(os.listdir("/proc/self/fd")), before + bounded.MOST_OPEN + 9)
 
 
 class Bounds(unittest.TestCase):

@@ -2,14 +2,14 @@ import unittest
 
 from made import heard
 from scripts.bounded import Refusal
-from scripts.table.breakpad import lines_within, spans_of, symbols
+from scripts.table.breakpad import Symbols, spans_of
 
 HEAD = [b"MODULE Linux x86_64 0 app\n", b"FILE 0 /a.c\r\n", b"FILE 7 /b c.h\n"]
 A = b"/a.c"
 
 
 def spans(*lines, base=0):
-    return spans_of(iter(HEAD + [line + b"\n" for line in lines]), base)
+    return list(spans_of(iter(HEAD + [line + b"\n" for line in lines]), base))
 
 
 class Files(unittest.TestCase):
@@ -39,17 +39,17 @@ class Files(unittest.TestCase):
             (HEAD + [b"FUNC 10 4 0 g\n", b"10 4 3 5\n"], "no FILE 5"),
         ):
             with self.assertRaisesRegex(Refusal, text):
-                spans_of(iter(lines))
+                list(spans_of(iter(lines)))
 
 
 class Parts(unittest.TestCase):
     def test_functions_and_their_lines(self):
-        (found,) = symbols(iter(HEAD + [b"FUNC 10 8 0 f\n", b"10 2 1 0\n"]), 1)
-        self.assertEqual(found, (0x11, 0x19, {0: A, 7: b"/b c.h"}, [(0x11, 0x13, (0, 1))]))
+        found = Symbols(iter(HEAD + [b"FUNC 10 8 0 f\n", b"10 2 1 0\n", b"FUNC 4 1 0 g\n", b"FUNC 2 0 0 h\n"]))
+        self.assertEqual((list(found.ranges()), found.files), ([(4, 5, 1, 1), (0x10, 0x18, 0, 1)], {0: A, 7: b"/b c.h"}))
 
     def test_lines_are_cut_to_their_function(self):
-        found = lines_within(4, 8, {0: A}, [(0, 5, (0, 1)), (6, 9, (0, 2)), (9, 10, (0, 3))])
-        self.assertEqual(list(found), [(4, 5, (A, 1)), (6, 8, (A, 2))])
+        found = Symbols(iter(HEAD + [b"FUNC 4 4 0 f\n", b"9 1 3 0\n", b"6 3 2 0\n", b"0 5 1 0\n"]))
+        self.assertEqual(list(found.within(4, 8, 0, 3)), [(4, 5, (A, 1)), (6, 8, (A, 2))])
 
 
 if __name__ == "__main__":

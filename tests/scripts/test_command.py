@@ -68,7 +68,7 @@ class Tables(unittest.TestCase):
             file.write(b"MODULE Linux x86_64 0 app\nFILE 0 /a.c\nFUNC 0 4 0 f\n0 2 1 0\n2 2 1 0\n")
             file.flush()
             asked = command.asked_for(["breakpad", file.name, "--base", "0x10"])
-            self.assertEqual(bytes(command.table_for(asked)), b"low,high,path,line\n0x10,0x14,/a.c,1\n")
+            self.assertEqual(b"".join(command.table_for(asked)), b"low,high,path,line\n0x10,0x14,/a.c,1\n")
 
     def test_columns(self):
         makers = command.MAKERS
@@ -76,9 +76,18 @@ class Tables(unittest.TestCase):
         self.assertFalse(makers["readelf"].has_columns(None))
         asked = command.asked_for(["points", "eu-addr2line", "app"])
         self.assertTrue(makers["points"].has_columns(asked))
+        for like, has in (("llvm-symbolizer", True), ("addr2line", False)):
+            self.assertEqual(makers["points"].has_columns(command.asked_for(["points", "mine", "app", "--like", like])), has)
+
+    def test_columns_of_lines(self):
+        for text, table in ((b"10 /a:1\n", b"low,high,path,line\n0x10,0x11,/a,1\n"), (b"10 /a:1:2\n", b"low,high,path,line,column\n0x10,0x11,/a,1,2\n")):
+            with tempfile.NamedTemporaryFile() as file:
+                file.write(text)
+                file.flush()
+                self.assertEqual(b"".join(command.table_for(command.asked_for(["lines", file.name]))), table)
 
     def test_each_maker_has_a_name(self):
-        self.assertEqual(list(command.MAKERS), ["gsym", "gsym-17", "breakpad", "llvm-dwarfdump", "readelf", "points"])
+        self.assertEqual(list(command.MAKERS), ["gsym", "gsym-17", "breakpad", "llvm-dwarfdump", "readelf", "lines", "points"])
 
 
 if __name__ == "__main__":

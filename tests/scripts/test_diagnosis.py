@@ -4,7 +4,7 @@ import unittest
 from types import SimpleNamespace
 
 from scripts.kinds import BREAKPAD
-from scripts.object.diagnosis import Change, Differences, Head, beginnings, is_whole, option_text, unescaped, what_is_so, what_to_do
+from scripts.object.diagnosis import Change, Differences, Head, beginnings, option_text, unescaped, what_is_so, what_to_do
 from scripts.object.image import Image
 from scripts.object.tables import LAYOUTS, Unclear, layout_of
 
@@ -84,8 +84,9 @@ class Beginnings(unittest.TestCase):
     def test_other_names_have_none(self):
         self.assertEqual(beginnings({("/w/a.c", "/w/b.c")}, []), [])
 
-    def test_absolute_paths(self):
-        self.assertEqual([path for path in ("/a", "\\a", "C:/a", "c:\\a", "a/b", "") if is_whole(path)], ["/a", "\\a", "C:/a", "c:\\a"])
+    def test_relative_ones_that_become_whole(self):
+        for maps, is_so in (([("", "/w/")], True), ([("s/", "C:/w/s/"), ("", "\\\\s\\")], True), ([("", "w/")], False), ([("/v/", "/w/")], False), ([], False)):
+            self.assertEqual(Change(maps=maps).is_about_relative(), is_so)
 
 
 class Changes(unittest.TestCase):

@@ -8,6 +8,7 @@ from unittest import mock
 from scripts.bounded import Failure, Part
 from scripts.object import directories, program, supplement
 from scripts.object.cursor import Broken, Cursor
+from scripts.object.directories import WINDOW
 from scripts.object.image import LINE, Image
 
 STRING, STRP, ALT, SUP = b"\x08", b"\x0e", b"\xa1\x3e", b"\x1d"
@@ -64,6 +65,22 @@ class Records(unittest.TestCase):
         records, notes = found(STRP, [bytes(4)])
         self.assertEqual((records, len(notes)), ([], 1))
         self.assertIn("its directory lies past the end of a section", notes[0])
+
+    def test_units_that_are_too_short_are_counted(self):
+        names = [b"a.c", b"b.c"]
+        whole = info_of(b"/w\0", b"/x\0")
+        first = whole[: len(whole) // 2]
+        info = bytes(8) + first + bytes(4) + b"\1\0\0\0\0" + bytes(4) + whole[len(first) :] + bytes(3)
+        with mock.patch(__name__ + ".info_of", lambda *_: info):
+            records, notes = found(STRING, [b"", b""], names)
+        self.assertEqual(records, [b"0,/w", b"%d,/x" % LINE_SIZE])
+        self.assertEqual(notes, ["6 compilation directories can't be read, and are left empty; the first is that of the unit at 0x0 of "
+                                 ".debug_info: it is cut"])
+
+    def test_a_megabyte_of_zeros_is_no_quarter_of_a_million_units(self):
+        with mock.patch.object(directories, "Unit", side_effect=AssertionError):
+            image = image_with(debug_info=bytes(1 << 20))
+            self.assertEqual([count for *_, count in directories.Units(image, None).places()], [WINDOW // 4] * ((1 << 20) // WINDOW))
 
     def test_a_file_that_cannot_be_written_is_no_fault_of_the_section(self):
         with mock.patch.object(program, "without_name", side_effect=OSError(28, "No space left on device")):

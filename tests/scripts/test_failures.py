@@ -2,7 +2,6 @@
 
 import errno
 import os
-import tempfile
 import unittest
 from types import SimpleNamespace
 from unittest import mock
@@ -25,14 +24,14 @@ class Failures(unittest.TestCase):
         self.assertFalse(issubclass(Failure, Refusal))
         self.assertEqual(command.reason_of(Failure("it is full")), ("it is full", 3))
 
-    def test_no_memory_for_a_file(self):
-        with tempfile.TemporaryFile() as file:
-            file.write(b"some")
-            file.flush()
-            with mock.patch.object(bounded.mmap, "mmap", side_effect=OSError(errno.ENOMEM, "Cannot allocate memory")):
-                self.assertRaises(MemoryError, bounded.mapped, file.fileno())
-            with mock.patch.object(bounded.mmap, "mmap", side_effect=OSError(errno.ENODEV, "No such device")):
-                self.assertRaises(OSError, bounded.mapped, file.fileno())
+    def test_no_memory_for_what_the_system_does(self):
+        error = OSError(errno.ENOMEM, "Cannot allocate memory")
+        self.assertEqual(command.reason_of(error), ("out of memory", 4))
+        self.assertIsInstance(bounded.failure("it can't be run: %s", error), MemoryError)
+        with mock.patch.object(os, "posix_spawn", side_effect=error):
+            self.assertRaises(MemoryError, Run, ["verify"])
+        other = bounded.failure("it can't be run: %s", OSError(errno.ENOENT, "No such file or directory"))
+        self.assertEqual(command.reason_of(other), ("it can't be run: No such file or directory", 3))
 
     def test_a_run_that_came_to_no_answer(self):
         self.assertEqual([ended(0).judged(), ended(1).judged()], [0, 1])

@@ -41,6 +41,7 @@ class Header(unittest.TestCase):
         self.assertIn("UTF-16", unreadable(b"\0l\0o", "t"))
         self.assertEqual(unreadable(b"a\0b", "t"), "it is no text")
         self.assertIn("without its first line", unreadable(b"FILE 0 /w/a.c\n", "t"))
+        self.assertIn("linetab-table lines t | linetab-object check PROGRAM -", unreadable(b"0x10 0x14 /w/a.c:3\n", "t"))
         self.assertIsNone(unreadable(b"low;high;path;line\n", "t"))
 
 

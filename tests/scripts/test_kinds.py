@@ -2,7 +2,7 @@
 
 import unittest
 
-from scripts.kinds import BREAKPAD, GSYM, LLVM, PROGRAM, READELF, TABLE, fields, first_line, foreign, kind_of
+from scripts.kinds import BREAKPAD, GSYM, LINES, LLVM, PROGRAM, READELF, TABLE, fields, first_line, foreign, kind_of
 
 
 class Kinds(unittest.TestCase):
@@ -17,6 +17,9 @@ class Kinds(unittest.TestCase):
             b"Low;High;File\n": TABLE,
             b"app:\n\n.debug_line contents:\n": LLVM,
             b"Contents of the .debug_line section:\n": READELF,
+            b"0x10 /a.c:3\r\n": LINES,
+            b" 10 20 a b.c:3:5": LINES,
+            b"0x10 /a.c\n0x11 /a.c:3\n": None,
             b"low,high\n": None,
             b"": None,
         }.items():
@@ -30,6 +33,9 @@ class Kinds(unittest.TestCase):
         self.assertIsNone(foreign("gsym-17", b"MYSG", "a"))
         self.assertIsNone(foreign("points", b"\x7fELF", "a"))
         self.assertIsNone(foreign("readelf", b"what?", "a"))
+        self.assertIsNone(foreign("lines", b"10 a:3", "a"))
+        self.assertEqual(foreign("gsym", b"10 a:3", "a"), "it is lines of addresses, paths and line numbers: linetab-table lines a")
+        self.assertEqual(foreign("lines", b"MZ", "a"), "it is a program: linetab-table points addr2line a asks one about each address of its code")
         self.assertEqual(foreign("gsym", b"MODULE ", "a"), "it is a symbol file of Breakpad: linetab-table breakpad a")
         self.assertIn("linetab-table breakpad -", foreign("breakpad", b"\x7fELF", "a"))
 

@@ -1,6 +1,7 @@
 import types
 import unittest
 
+from made import part
 from scripts.object.image import Image
 from scripts.object.notes import discarded, is_left_out, is_version, marker_of, notes_to, twice_held
 
@@ -22,7 +23,7 @@ class Question:
 
     def __init__(self, content, *code, said=None):
         self.image, self.said, self.asked = image(*code), said or {}, []
-        self.section = lambda: types.SimpleNamespace(whole=content)
+        self.section = lambda: part(content)
 
     def verdict(self, *words):
         self.asked.append(words)
@@ -31,11 +32,11 @@ class Question:
 
 class Discarded(unittest.TestCase):
     def test_where_no_code_is(self):
-        content = sets(bytes(8)) + sets(b"\xff" * 8)
+        content = part(sets(bytes(8)) + sets(b"\xff" * 8))
         self.assertEqual(list(discarded(content, image())), ["0x0", "0xffffffffffffffff"])
         self.assertEqual(list(discarded(content, image((0, 1)))), ["0xffffffffffffffff"])
-        self.assertEqual(list(discarded(sets(b"\xff" * 4), image(sizes=(8, 4, 2)))), ["0xffffffff"])
-        self.assertEqual(list(discarded(sets(b"\1" * 8), image())), [])
+        self.assertEqual(list(discarded(part(sets(b"\xff" * 4)), image(sizes=(8, 4, 2)))), ["0xffffffff"])
+        self.assertEqual(list(discarded(part(sets(b"\1" * 8)), image())), [])
 
     def test_of_two_the_program_is_asked(self):
         question = Question(sets(bytes(8)) + sets(b"\xff" * 8))

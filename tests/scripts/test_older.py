@@ -4,7 +4,7 @@ import struct
 import unittest
 
 from scripts.bounded import Part
-from scripts.object.older import counted, is_relative, joined, paths, versions
+from scripts.object.older import counted, joined, paths, versions
 
 
 def unit(version, order="<", wide=False, folders=(b"src",), files=((b"a.c", 1), (b"b.c", 0))):
@@ -44,9 +44,9 @@ class Paths(unittest.TestCase):
                     content = unit(5, order) + unit(version, order, wide)
                     self.assertEqual(list(paths(part(content), len(unit(5)), name)), [b"src/a.c", b"b.c"])
 
-    def test_a_whole_name_needs_no_directory(self):
-        content = unit(4, folders=(b"/w", b"x"), files=((b"a.c", 1), (b"/y/b.c", 2), (b"c.c", 3)))
-        self.assertEqual(list(paths(part(content), 0, "little")), [b"/w/a.c", b"/y/b.c", b"c.c"])
+    def test_a_full_name_needs_no_directory(self):
+        content = unit(4, folders=(b"/w", b"x"), files=((b"a.c", 1), (b"/y/b.c", 2), (b"c.c", 3), (b"C:\\d.c", 2)))
+        self.assertEqual(list(paths(part(content), 0, "little")), [b"/w/a.c", b"/y/b.c", b"c.c", b"C:\\d.c"])
 
     def test_what_is_cut_ends_the_list(self):
         content = unit(4)
@@ -60,12 +60,6 @@ class Paths(unittest.TestCase):
         self.assertEqual(list(paths(part(cut), 0, "little")), [b"a.c"])
         shorter = struct.pack("<I", 6) + content[4:]
         self.assertEqual(list(paths(part(shorter), 0, "little")), [])
-
-    def test_relative_paths(self):
-        for path in (b"a.c", b"./a.c", b"src/a.c", b"..", b""):
-            self.assertTrue(is_relative(path), path)
-        for path in (b"/w/a.c", b"C:\\w\\a.c", b"c:/w/a.c", b"\\\\server\\a.c"):
-            self.assertFalse(is_relative(path), path)
 
 
 class Texts(unittest.TestCase):

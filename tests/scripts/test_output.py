@@ -1,9 +1,12 @@
 import contextlib
 import os
+import signal
 import tempfile
+import time
 import unittest
+from unittest import mock
 
-from scripts.object.output import Named, Overwriting, Standard, Unwritten, Whole, listed_in, place_named
+from scripts.object.output import Named, Overwriting, Standard, Unwritten, Whole, listed_in, place_named, removed_where_ended
 
 
 @contextlib.contextmanager
@@ -55,6 +58,33 @@ class Files(unittest.TestCase):
         with open(self.path, "rb") as file:
             self.assertEqual(file.read(), b"one")
         self.assertEqual(os.listdir(self.folder), ["out"])
+
+    def test_one_takes_the_place_of_another_and_keeps_its_mode(self):
+        for is_linked in True, False:
+            with open(self.path, "w"):
+                os.chmod(self.path, 0o640)
+            sink = Whole(self.path)
+            sink.write(b"two")
+            with mock.patch.object(os, "link", side_effect=None if is_linked else OSError(18, "Invalid cross-device link"), wraps=os.link):
+                sink.end(0)
+            with open(self.path, "rb") as file:
+                self.assertEqual((file.read(), os.stat(self.path).st_mode & 0o777), (b"two", 0o640))
+            self.assertEqual(os.listdir(self.folder), ["out"])
+
+    def test_a_signal_leaves_nothing_behind(self):
+        for number in signal.SIGTERM, signal.SIGHUP:
+            child = os.fork()
+            if child == 0:
+                with removed_where_ended(self.path), open(self.path, "w"):
+                    os.kill(os.getpid(), number)
+                    time.sleep(9)
+                os._exit(0)
+            self.assertEqual((os.waitpid(child, 0)[1], os.listdir(self.folder)), (number, []))
+
+    def test_what_fails_leaves_nothing_behind(self):
+        with self.assertRaises(KeyError), removed_where_ended(self.path), open(self.path, "w"):
+            raise KeyError
+        self.assertEqual((os.listdir(self.folder), signal.getsignal(signal.SIGTERM)), ([], signal.SIG_DFL))
 
     def test_what_is_no_answer_goes_to_standard_output(self):
         with output() as written:

@@ -14,6 +14,11 @@ class Dialects(unittest.TestCase):
             self.assertEqual(dialect_of(name).mark, mark)
         self.assertIsNone(dialect_of("addr2line/gdb"))
 
+    def test_by_what_it_is_like(self):
+        for name in ("addr2line", "eu-addr2line", "llvm-symbolizer"):
+            self.assertEqual(dialect_of("eu-addr2line", name).name, name)
+            self.assertEqual(dialect_of("mine", name).name, name)
+
     def meant(self, name, text):
         asked = Asked.__new__(Asked)
         asked.dialect = dialect_of(name)

@@ -1,6 +1,10 @@
+import io
 import unittest
+from types import SimpleNamespace
+from unittest import mock
 
 from scripts.bounded import Refusal
+from scripts.table import readelf
 from scripts.table.readelf import decoded, decoded_rows, path_of_row
 
 TEXT = b"""Contents of the .debug_line section:
@@ -43,12 +47,18 @@ class Lines(unittest.TestCase):
 class Rows(unittest.TestCase):
     def test_of_sequences(self):
         self.assertEqual(rows(TEXT), [
-            [(0x1010, (b"/w/a.c", 3)), (0x1014, (b"/w/a.c", 4)), (0x1018, (b"sub/b 2 0x5.h", 9)), (0x1020, None)],
-            [(0, (b"c.h", 7)), (8, None)],
+            (0x1010, (b"/w/a.c", 3)), (0x1014, (b"/w/a.c", 4)), (0x1018, (b"sub/b 2 0x5.h", 9)), (0x1020, None),
+            (0, (b"c.h", 7)), (8, None),
         ])
 
+    def test_spans_in_order(self):
+        with mock.patch.object(readelf, "source", lambda asked: io.BytesIO(TEXT)):
+            spans = list(readelf.from_readelf(SimpleNamespace(dead=None, skip_copies=False)))
+        self.assertEqual(spans[:2], [(0, 8, (b"c.h", 7)), (0x1010, 0x1014, (b"/w/a.c", 3))])
+        self.assertEqual(len(spans), 4)
+
     def test_what_is_none(self):
-        for text, reason in ((b"text\n", "isn't what readelf"), (TEXT[: TEXT.index(b"b 2 0x5.h              -")], "ends within"), (b"./a..h:\n", "names are cut")):
+        for text, reason in ((b"text\n", "isn't what readelf"), (b"./a..h:\n", "names are cut")):
             with self.assertRaisesRegex(Refusal, reason):
                 rows(text)
 

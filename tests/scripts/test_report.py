@@ -4,7 +4,8 @@ import types
 import unittest
 
 from scripts.object.image import Image
-from scripts.object.report import Lines, Report, text_of
+from scripts.object import report as module
+from scripts.object.report import Lines, Report, put_lack, text_of
 
 
 class Kept:
@@ -69,6 +70,20 @@ class Objects(unittest.TestCase):
         report.write(b"no 40 differs at 0x0,0 table none section none\nno 40 differs at 0x1,0 table none section none\n")
         found = written(report, 1)
         self.assertEqual((len(found["differences"]), found["line"]), (2, found["differences"][0]))
+
+    def test_a_summary(self):
+        report = Report(given("app.sym"), "app")
+        report.know(summary=["1 right", "a\udcff"])
+        report.write(b"yes\n")
+        self.assertEqual(written(report, 0)["summary"], ["1 right", "a\\xff"])
+
+    def test_what_lacks_its_other_half(self):
+        sink = Kept()
+        module.Standard, kept = (lambda: sink), module.Standard
+        self.addCleanup(setattr, module, "Standard", kept)
+        put_lack("app", None, "no symbol file", None)
+        found = json.loads(sink.content)
+        self.assertEqual((found["file"], found["symbols"], found["answer"], found["line"]), ("app", None, "no", "no symbol file"))
 
     def test_a_no_without_a_number(self):
         report = Report(given("app.sym"), "app")

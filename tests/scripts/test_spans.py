@@ -1,9 +1,8 @@
-import types
 import unittest
 
 from made import heard
-from scripts.bounded import Refusal
-from scripts.table.spans import LONGEST, apart, first_difference, in_order, joined, live, quoted, steps, table_of
+from scripts.bounded import PIECE, Refusal
+from scripts.table.spans import LONGEST, apart, first_difference, joined, meant, quoted, steps, table_of
 
 A, B = (b"/a", 1), (b"/b", 2)
 
@@ -18,14 +17,18 @@ class Rows(unittest.TestCase):
         self.assertEqual(list(joined([(1, 3, A), (3, 5, A), (5, 6, B), (7, 8, B)])), [(1, 5, A), (5, 6, B), (7, 8, B)])
         self.assertEqual(list(joined([])), [])
 
-    def test_in_order(self):
-        self.assertEqual(in_order([(3, 4, A), (1, 2, B)]), [(1, 2, B), (3, 4, A)])
+    def test_what_tools_mean(self):
+        for said, answer in (
+            ((b"/a", b"1"), A), ((b"/a", b"1", b"3"), (b"/a", 1, 3)), ((b"/a", b"1", None), (b"/a", 1, 0)), ((b"/a", b"?"), (b"/a", 0)),
+            ((b"a", b"?"), None), ((b"a", b"0"), (b"a", 0)), ((b"??", b"0"), None), ((b"??", b"?", b"?"), None),
+        ):
+            self.assertEqual(meant(*said), answer)
 
 
 class Apart(unittest.TestCase):
     def test_what_overlaps_is_left_out_and_told(self):
         with heard() as ear:
-            self.assertEqual(list(apart([(4, 6, A), (1, 5, A), (5, 7, B), (2, 3, B)], "line")), [(1, 5, A), (5, 7, B)])
+            self.assertEqual(list(apart([(1, 5, A), (2, 3, B), (4, 6, A), (5, 7, B)], "line")), [(1, 5, A), (5, 7, B)])
         self.assertEqual(ear.notes, ["left out, as they overlap one before: 2 lines"])
 
     def test_nothing_is_told_where_nothing_does(self):
@@ -36,27 +39,21 @@ class Apart(unittest.TestCase):
 
 class Tables(unittest.TestCase):
     def test_both_versions(self):
-        self.assertEqual(bytes(table_of([(1, 0x1F, A)], False)), b"low,high,path,line\n0x1,0x1f,/a,1\n")
-        self.assertEqual(bytes(table_of([(1, 2, (b"a,b", 1, 7))], True)), b'low,high,path,line,column\n0x1,0x2,"a,b",1,7\n')
+        self.assertEqual(b"".join(table_of([(1, 0x1F, A)], False)), b"low,high,path,line\n0x1,0x1f,/a,1\n")
+        self.assertEqual(b"".join(table_of([(1, 2, (b"a,b", 1, 7))], True)), b'low,high,path,line,column\n0x1,0x2,"a,b",1,7\n')
+
+    def test_a_long_one_comes_in_pieces(self):
+        spans = ((low, low + 1, (b"x" * LONGEST, 1)) for low in range(1000))
+        pieces = list(map(len, table_of(spans, False)))
+        self.assertGreater(len(pieces), 3)
+        self.assertLess(max(pieces), PIECE + 2 * LONGEST)
 
     def test_quotes(self):
         self.assertEqual([quoted(path) for path in (b"a b", b'a"b', b"a\nb")], [b"a b", b'"a""b"', b'"a\nb"'])
 
     def test_a_path_that_is_too_long(self):
         with self.assertRaises(Refusal):
-            table_of([(1, 2, (b"x" * (LONGEST + 1), 1))], False)
-
-
-class Sequences(unittest.TestCase):
-    def live(self, dead=None, skip_copies=False):
-        sequences = [[(0, A), (4, None)], [(8, A), (9, B), (12, None)], [(8, B), (12, None)]]
-        return list(live(sequences, types.SimpleNamespace(dead=dead, skip_copies=skip_copies)))
-
-    def test_all(self):
-        self.assertEqual(self.live(), [(0, 4, A), (8, 9, A), (9, 12, B), (8, 12, B)])
-
-    def test_without_discarded_ones_and_copies(self):
-        self.assertEqual(self.live(dead=0, skip_copies=True), [(8, 9, A), (9, 12, B)])
+            list(table_of([(1, 2, (b"x" * (LONGEST + 1), 1))], False))
 
 
 class Differences(unittest.TestCase):

@@ -61,17 +61,15 @@ class Files(unittest.TestCase):
         self.assertIsNone(self.other(head).identifier())
 
     def test_a_table_is_made_of_it(self):
-        other = self.other(b"MODULE Linux x86_64 01 app\nFILE 0 /a.c\nFUNC 10 4 0 f\n10 2 7 0\n12 2 7 0\n")
-        spans = other.spans(0x1000)
-        self.assertEqual(spans, [(0x1010, 0x1012, (b"/a.c", 7)), (0x1012, 0x1014, (b"/a.c", 7))])
-        other.put_table(spans)
+        other = self.other(b"MODULE Linux x86_64 01 app\n")
+        other.put_table([(0x1010, 0x1012, (b"/a.c", 7)), (0x1012, 0x1014, (b"/a.c", 7))])
         with open(other.opened_as, "rb") as table:
             self.assertEqual(table.read(), b"low,high,path,line\n0x1010,0x1014,/a.c,7\n")
 
     def test_a_refusal_names_it(self):
-        other = self.other(b"MODULE Linux x86_64 01 app\nnonsense\n")
+        other = self.other(b"MYSG\1\0")
         with self.assertRaises(Refusal) as caught:
-            other.spans(0)
+            list(other.spans())
         self.assertEqual(caught.exception.name, other.name)
 
 

@@ -8,7 +8,7 @@ class Listed(Whole):
     """The paths of a program that lists these."""
 
     def listed(self):
-        return [b"/w/a.c", b"/w/sub/b.h", b"/x/c.h", b"/y/c.h"]
+        return [b"/w/a.c", b"/w/sub/b.h", b"/x/c.h", b"/y/c.h", b"C:/b/inc/w.h", b"D:\\e.h"]
 
 
 class Paths(unittest.TestCase):
@@ -21,7 +21,8 @@ class Paths(unittest.TestCase):
         self.assertEqual(self.whole.ends(b"c.h")[0], 2)
 
     def test_one_alone_is_taken(self):
-        for path, whole in ((b"b.h", b"/w/sub/b.h"), (b"./sub/b.h", b"/w/sub/b.h"), (b"/w/a.c", b"/w/a.c"), (b"/dir//w/a.c", b"/w/a.c"), (b"/z", b"/z")):
+        for path, whole in ((b"b.h", b"/w/sub/b.h"), (b"./sub/b.h", b"/w/sub/b.h"), (b"/w/a.c", b"/w/a.c"), (b"/dir//w/a.c", b"/w/a.c"), (b"/z", b"/z"),
+                            (b"inc/w.h", b"C:/b/inc/w.h"), (b"C:/b/C:/b/inc/w.h", b"C:/b/inc/w.h"), (b"C:\\b/D:\\e.h", b"D:\\e.h"), (b"E:/z", b"E:/z")):
             self.assertEqual(self.whole.of(path), whole)
 
     def test_others_stay_and_are_told_once(self):

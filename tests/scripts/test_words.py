@@ -1,7 +1,7 @@
 import unittest
 
 from scripts.object import words
-from scripts.object.words import Check, Given, Symbolize, Usage, Word
+from scripts.object.words import GAPS, REPORT, Check, Differing, Given, Symbolize, Usage, Word
 
 TEXT = """Tells whether
 
@@ -26,6 +26,7 @@ TABLE = Word("table", TEXT % ("table", "", ""))
 CHECK = Check(TEXT % ("check", " <TABLE>", "\n  <TABLE>    The table"))
 LOOKUP = Word("lookup", TEXT % ("lookup", " [ADDRESS]...", "\n  [ADDRESS]...  An address"))
 SYMBOLIZE = Symbolize(LOOKUP)
+GAPS_OF, REPORT_OF = (Differing(named, CHECK.text.replace("<SYMBOLS>", "<TABLE>")) for named in (GAPS, REPORT))
 
 
 class Helps(unittest.TestCase):
@@ -44,6 +45,15 @@ class Helps(unittest.TestCase):
             self.assertIn(option, word.help())
         self.assertNotIn("--json", TABLE.help())
         self.assertTrue(CHECK.help().endswith("\n\nMore\n"))
+
+    def test_words_about_what_check_finds(self):
+        self.assertEqual(GAPS_OF.used(), "linetab-object gaps [OPTIONS] <FILE> <SYMBOLS>")
+        self.assertEqual(REPORT_OF.used(), "linetab-object report [OPTIONS] <FILE> <SYMBOLS>...")
+        for word in (GAPS_OF, REPORT_OF):
+            self.assertTrue(word.help().startswith(("Prints as CSV", "Writes a page")))
+            self.assertIn("--map <FROM=TO>", word.help())
+            for option in ("--all", "--json", "--summary", "--recursive"):
+                self.assertNotIn(option, word.help())
 
     def test_texts_of_the_program(self):
         self.assertEqual(words.renamed("Usage: linetab check <SECTION> <TABLE> 'linetab'"),
@@ -79,6 +89,8 @@ class Typed(unittest.TestCase):
         self.assertIs(plain.mapped(spans), spans)
 
     def test_numbers(self):
+        self.assertEqual([Given(CHECK, ["app", *typed]).jobs() for typed in (["-j3"], ["--jobs=04"], ["-j", "5"])], [3, 4, 5])
+        self.assertGreater(Given(CHECK, ["app"]).jobs(), 0)
         self.assertEqual(Given(CHECK, ["app", "--base=0x4F"]).base(), 0x4F)
         self.assertEqual(Given(CHECK, ["app", "--base", "4f"]).base(), 0x4F)
         self.assertIsNone(Given(CHECK, ["app"]).base())
@@ -99,10 +111,13 @@ class Typed(unittest.TestCase):
             (CHECK, ["--max", "3"], "--max is for check --all"),
             (CHECK, ["--all", "--max", "0"], "--max wants a number"),
             (CHECK, ["--all", "--max", "\u0663"], "--max wants a number"),
-            (CHECK, ["-r"], "check takes one FILE and SYMBOLS, and no folders"),
+            (CHECK, ["-r", "-j", "0"], "--jobs wants a number from 1 on, and not 0"),
+            (TABLE, ["-jx"], "--jobs wants a number"),
             (LOOKUP, ["--recursive"], "lookup takes one FILE and ADDRESS.., and no folders"),
             (TABLE, ["--json"], "table takes FILEs, and no --json"),
             (SYMBOLIZE, ["--max", "3"], "symbolize takes one FILE, and no --max"),
+            (GAPS_OF, ["a", "b", "--all"], "gaps takes one FILE and SYMBOLS, and no --all, which is for check"),
+            (REPORT_OF, ["a", "b", "--summary"], "report takes one FILE and SYMBOLS.., and no --summary, which is for check"),
         ]
         for word, typed, text in cases:
             with self.assertRaisesRegex(Usage, text):

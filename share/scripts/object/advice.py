@@ -10,7 +10,8 @@ from scripts.object.older import OLDER, counted, joined, paths, versions
 from scripts.telling import shown
 
 # How notes of the program begin that are told here in other words.
-TEXTS, UPGRADES = "its text lies in ", "linetab upgrade writes units "
+TEXTS, UPGRADES = "its text lies in ", "linetab upgrade SECTION --address-size "
+SETS = "the operation there sets an address "
 
 
 # ---- units of another version
@@ -73,7 +74,7 @@ def compiled_anew(image, version):
     if mark:
         return COMPILERS[mark]
     if version < 4:
-        return "compile with -gdwarf-5, by gcc with -Wa,--gdwarf-5 too, as it is the assembler's; as itself takes --gdwarf-5"
+        return "compile with -gdwarf-5; with gcc also -Wa,--gdwarf-5, since the assembler writes the section (as: --gdwarf-5)"
     return "compile with -gdwarf-5"
 
 
@@ -102,7 +103,7 @@ def advice(line, question):
     if address:
         return overlapping(address), (DEAD, COPIES) if address == "0x0" else ()
     if line.startswith("no 25 ") and line.endswith(": extended length") and "--address-size" in question.options:
-        return OTHER_SIZE % question.options["--address-size"][0], ()
+        return OTHER_SIZE % question.options["--address-size"][0], (SETS,)
     if line.endswith(": zero opcode base") and compiler_of(image) == PASCAL:
         return "Free Pascal leaves the field maximum_operations_per_instruction out of version 4: compile with -gw3", ()
     if line.startswith("no 28 ") and missing:

@@ -45,7 +45,10 @@ def is_of(image, data, found, crc):
         return False
     import zlib
 
-    return zlib.crc32(data.whole) == crc
+    sum_of_it = 0
+    for piece in data.pieces():
+        sum_of_it = zlib.crc32(piece, sum_of_it)
+    return sum_of_it == crc
 
 
 def apart(path, image):

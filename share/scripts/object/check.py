@@ -10,6 +10,8 @@ from scripts.telling import shown
 
 COUNTS = re.compile(rb"(?:yes\nanswers|no 46 answers) ([0-9]+) of ([0-9]+)\n")
 LONGEST = 4096  # bytes of an answer with counts
+SECTION_NO = re.compile("no (?:2[5-9]|3[0-2]) ")
+EMPTY = b"low,high,path,line\n"
 
 
 class Comparison:
@@ -18,9 +20,12 @@ class Comparison:
     def __init__(self, given, name, image, other):
         self.given, self.name, self.image, self.other = given, name, image, other
         self.counts = None  # how many addresses are answered, and of how many, where the answer has both
+        self.is_of_this_build = False  # whether the identifiers of both say so
         self.base = 0  # the address from which a symbol file of Breakpad counts
         self.missed = None  # those that aren't, by functions
         self.listing = None  # the lines of --all
+        self.summary = []  # the lines of --summary
+        self.refused = ""  # the line by which a symbol file is refused
         self.notes = []
 
     # ---- before
@@ -39,29 +44,59 @@ class Comparison:
             self.notes.append("%s has no identifier of its build, so whether %s was made of %s isn't known" % (
                 shown(without), shown(self.other.name), shown(self.name)))
             return b""
-        if theirs.upper() == ours.upper():
+        self.is_of_this_build = theirs.upper() == ours.upper()
+        if self.is_of_this_build:
             return b""
         return os.fsencode("no other build: %s is of %s, %s is %s\n" % (shown(self.other.name), shown(theirs), shown(self.name), ours))
+
+    def told_other_build(self, line, sink):
+        """Writes that line, with the summary, and gives the exit status."""
+        sink.write(line)
+        if "--summary" in self.given.own:
+            self.put_summary(os.fsdecode(line), sink)
+        sink.end(1)
+        return 1
 
     def prepare(self):
         """Makes the table of a symbol file."""
         if not self.other.is_symbol_file:
+            if self.given.maps:
+                self.notes.append("%s is an address table, and --map is for symbol files, so it is passed over" % shown(self.other.name))
             return
         base = self.given.base()
         if self.other.kind == BREAKPAD:
-            base = self.base = self.image.program.load_address() if base is None else base
-        elif base is not None:
+            self.base = self.image.program.load_address() if base is None else base
+            self.put_symbols()
+            return
+        if base is not None:
             self.notes.append("%s has a base of its own, so --base is passed over" % shown(self.other.name))
-        spans = self.other.spans(base)
-        if self.other.kind != BREAKPAD and self.other.data.size <= READ_TWICE:
-            self.notes += self.older_readers(spans)
-        self.other.put_table(self.given.mapped(spans))
+        if self.other.data.size <= READ_TWICE:
+            self.notes += self.older_readers()
+        self.other.put_table(self.given.mapped(self.other.spans()))
 
-    def older_readers(self, spans):
+    def put_symbols(self):
+        """Makes the table of a symbol file of Breakpad, by the program linetab. If that refuses the file, the table has no record."""
+        from scripts.object.tables import spans_in
+
+        run = self.other.symbols(self.base)
+        self.refused = run.no()
+        if self.refused:
+            self.other.put([EMPTY])
+        elif self.given.maps:
+            self.other.put_table(self.given.mapped(spans_in(run.pieces())))
+        else:
+            self.other.put(run.pieces())
+        run.judged()
+
+    def refusal(self, run):
+        """The line that refuses the symbol file, unless the section itself is refused, or nothing."""
+        return "" if SECTION_NO.match(run.no()) else self.refused
+
+    def older_readers(self):
         """A note if readers of GSYM files up to LLVM 17 answer otherwise."""
         from scripts.table.spans import first_difference
 
-        difference = first_difference(spans, self.other.spans(0, first_row=True))
+        difference = first_difference(self.other.spans(), self.other.spans(first_row=True))
         if difference is None:
             return []
         address, here, there = difference
@@ -93,8 +128,8 @@ class Comparison:
 
     # ---- the answer
 
-    def passed_on(self, run, sink):
-        """Writes the answer, and gives the exit status. An answer about no address at all is none."""
+    def passed_on(self, run, sink, question, words):
+        """Writes the answer, and the summary behind it, and gives the exit status. An answer about no address at all is none."""
         head = b""
         try:
             for piece in self.pieces(run):
@@ -109,9 +144,23 @@ class Comparison:
         if head:
             self.read_counts(head)
             sink.write(head)
+        if status in (0, 1) and "--summary" in self.given.own:
+            self.put_summary(os.fsdecode(run.head.split(b"\n", 1)[0]), sink, question, words)
         if status >= 0:
             sink.end(status)
         return status
+
+    def put_summary(self, line, sink, question=None, words=()):
+        """Writes the summary of an answer that begins with this line."""
+        from scripts.object import summary
+
+        self.summary, tally = summary.lines_of(self, question, words, line)
+        if self.counts:
+            self.missed = tally.by_function[summary.MISSING]
+        if self.given.is_json:
+            sink.know(summary=self.summary)
+        else:
+            sink.write(b"".join(os.fsencode(each) + b"\n" for each in self.summary))
 
     def pieces(self, run):
         """The answer as it comes; of --all the lines that are wanted."""
@@ -142,7 +191,7 @@ class Comparison:
 
     def missing(self, question, words):
         """A note of what the other file has no answer for, by functions."""
-        if self.counts is None or self.counts[0] == self.counts[1]:
+        if self.counts is None or self.counts[0] == self.counts[1] or self.summary:
             return []
         from scripts.object.functions import Functions, Missed
         from scripts.object.stretches import without_answer
@@ -164,6 +213,8 @@ class Comparison:
     def diagnosis(self, run, question, words):
         """Notes of what is the matter with the other file, and how notes of the program begin that say less."""
         line = run.no()
+        if self.summary:
+            return [], []
         if line.startswith("no 40 "):
             from scripts.object import diagnosis
 

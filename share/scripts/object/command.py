@@ -5,7 +5,7 @@ import stat
 import sys
 
 from scripts import telling
-from scripts.bounded import Failure, Nothing, Refusal, mapped, opened, standard_input
+from scripts.bounded import Failure, Nothing, Refusal, opened, reason_of, standard_input, stored
 from scripts.object.image import inside, judged
 from scripts.object.notes import begun, marker_of, notes_to
 from scripts.object.output import Overwriting, Standard, Unwritten, Whole
@@ -30,9 +30,9 @@ def source(name):
 def kept_input():
     """The bytes of standard input, which are kept in a file, where it is none."""
     if stat.S_ISREG(os.fstat(0).st_mode) and os.lseek(0, 0, os.SEEK_CUR) == 0:
-        return mapped(0), os.path.realpath("/proc/self/fd/0")
+        return stored(0), os.path.realpath("/proc/self/fd/0")
     file = unnamed(standard_input())
-    return mapped(file), "/proc/%d/fd/%d" % (os.getpid(), file)
+    return stored(file), "/proc/%d/fd/%d" % (os.getpid(), file)
 
 
 def told_of(run, same, is_quiet, of):
@@ -86,7 +86,7 @@ def judged_first(word, given, name, data, path):
     try:
         return judged(data, path)
     except Refusal:
-        if word.name == "check" and len(given.others) == 1:
+        if word.engine == "check" and len(given.others) == 1:
             from scripts.object.others import turned_round
 
             text = turned_round(data, name, given.others[0])
@@ -106,7 +106,11 @@ def answer(word, given, name, sink):
     with Question(image, word.taken - given.names) as question:
         if image.place and not given.is_quiet:
             note("the debug information of %s is in %s" % (shown(name), shown(image.place)))
-        if word.name == "check" and len(given.others) == 1:
+        if word.name == "report":
+            from scripts.object import pages
+
+            return pages.passed_on(given, name, question, sink)
+        if word.engine == "check" and len(given.others) == 1:
             return compared(word, given, name, question, sink)
         run, older = of_older_units(question, word, given)
         marker = address = None
@@ -127,7 +131,7 @@ def answer(word, given, name, sink):
 
 
 def compared(word, given, name, question, sink):
-    """Runs the word check, and gives the exit status."""
+    """Runs the word check or gaps, and gives the exit status."""
     from scripts.object.check import Comparison
     from scripts.object.others import refuse_other
     from scripts.object.symbol_files import Other
@@ -139,21 +143,21 @@ def compared(word, given, name, question, sink):
         sink.know(other=other)
         line = comparison.other_build()
         if line:
-            sink.write(line)
-            sink.end(1)
-            return 1
+            return comparison.told_other_build(line, sink)
         comparison.prepare()
         run, older = of_older_units(question, word, given)
         marker = address = None
         if run is None:
-            marker = marker_of(question) if "--dead" in question.taken else None
-            words = (["--dead", marker] if marker else []) + given.words()
-            run, address = begun(question, "check", words + comparison.words(), comparison.behind())
-        status = comparison.passed_on(run, sink)
+            run, marker, address = begun_on(question, given, comparison, word.words_for(comparison))
+        line = comparison.refusal(run)
+        if line:
+            run.stop()
+            return refused(line, sink)
+        common = common_words(given, marker, address)
+        status = word.passed_on(comparison)(run, sink, question, common)
         if status == 2:
             return misused(word, given, ["--partial"] * (comparison.gives_partial() and "--at-least" in given.names))
         notes = noted(run, name, question, marker, address, given.is_quiet)
-        common = (["--dead", marker] if marker else []) + (["--skip-copies"] if address else []) + given.words_of_section()
         if not given.is_quiet or given.is_json:
             comparison.add_notes(question, common)
         if not given.is_quiet:
@@ -166,6 +170,26 @@ def compared(word, given, name, question, sink):
         other.close()
 
 
+def refused(line, sink):
+    """Writes the line by which a symbol file is refused, and gives the exit status."""
+    sink.write(os.fsencode(line) + b"\n")
+    sink.end(1)
+    return 1
+
+
+def begun_on(question, given, comparison, words):
+    """A run of check with these words, which has begun to answer; the marker of discarded code, and the first address of copies."""
+    marker = marker_of(question) if "--dead" in question.taken else None
+    words = (["--dead", marker] if marker else []) + given.words() + words
+    run, address = begun(question, "check", words, comparison.behind())
+    return run, marker, address
+
+
+def common_words(given, marker, address):
+    """The options about the section of all runs."""
+    return (["--dead", marker] if marker else []) + (["--skip-copies"] if address else []) + given.words_of_section()
+
+
 def tell_notes(run, name, given, noted, others):
     """Hands on the notes of the program, but for those that are told in other words, and tells these and others."""
     notes, same = noted
@@ -176,18 +200,6 @@ def tell_notes(run, name, given, noted, others):
 
 
 # ---- all files
-
-
-def reason_of(fault):
-    """Why nothing was answered, and the exit status."""
-    if isinstance(fault, MemoryError):
-        return "out of memory", 4
-    if isinstance(fault, (Refusal, Failure)):
-        return str(fault), 3
-    if isinstance(fault, OSError):
-        return "cannot read it: %s" % fault.strerror, 3
-    # Python's own status would be 1, which is that of a no.
-    return "cannot read it, by a fault of this program: %r" % fault, 3
 
 
 def tried(word, given, name, sink, is_found=False):
@@ -257,6 +269,10 @@ def answered(word, given):
     """Answers about all files, and gives the exit status."""
     telling.is_quiet = given.is_quiet
     one = reported if given.is_json else tried
+    if word.name == "check" and given.is_several:
+        from scripts.object import pairs
+
+        return pairs.all_answers(word, given, one)
     if given.is_several:
         from scripts.object import folders
 

@@ -13,7 +13,9 @@ from collections import Counter
 from scripts.bounded import Failure, Refusal
 from scripts.kinds import BREAKPAD
 from scripts.object.program import unnamed
+from scripts.object.stretches import unescaped
 from scripts.object.tables import LONGEST, Unclear, layout_of, records, texts
+from scripts.paths import is_full
 from scripts.table.spans import quoted
 from scripts.telling import shown
 
@@ -93,8 +95,9 @@ class Change:
         return Change(self.shift, self.is_turned or is_turned, longest_first(found + self.maps), self.example or min(pairs))
 
     def is_about_relative(self):
-        """Whether it makes relative paths whole."""
-        return bool(self.maps) and not any(map(is_whole, dict(self.maps))) and all(map(is_whole, dict(self.maps).values()))
+        """Whether it makes relative paths full."""
+        full = [tuple(is_full(start.encode("latin-1")) for start in pair) for pair in self.maps]
+        return set(full) == {(False, True)}
 
     def pieces(self, layout, spans):
         """The bytes of a table with these spans, changed."""
@@ -123,11 +126,6 @@ class Paths(dict):
             self.clear()
         self[path] = quoted(self.change.path(path).encode("latin-1")).decode("latin-1")
         return self[path]
-
-
-def is_whole(path):
-    """Whether a path is absolute, on Windows too."""
-    return path.startswith(("/", "\\")) or path[1:3] in (":/", ":\\")
 
 
 def longest_first(maps):
@@ -177,11 +175,6 @@ def is_begun(paths, start):
 
 
 # ---- comparisons
-
-
-def unescaped(text):
-    """A path, of which the program printed bytes as \\xNN."""
-    return re.sub(r"\\x([0-9a-f]{2})", lambda match: chr(int(match[1], 16)), text)
 
 
 class Differences:
@@ -257,20 +250,20 @@ class Diagnosis:
             left = self.left(change)
         return change, left
 
-    def notes(self):
-        """A note of what they have in common, and what to do, if it leaves at most half of them."""
+    def told(self):
+        """What they have in common, and what to do, if it leaves at most half of them; else None."""
         change, left = self.found()
         if not change:
-            return []
+            return None
         rest = "which leaves no difference"
         if left.count:
             count, total = (self.left(which, None).count for which in (change, Change()))
             if 2 * count > total:
-                return []
+                return None
             rest = "which leaves %d of %d stretches that differ" % (count, total)
         if self.is_cut:
             rest += " in its first %d records" % MOST
-        return ["%s: %s, %s" % (what_is_so(change, self.comparison), " and ".join(what_to_do(change, self.comparison)), rest)]
+        return what_is_so(change, self.comparison), "%s, %s" % (" and ".join(what_to_do(change, self.comparison)), rest)
 
 
 @contextlib.contextmanager
@@ -325,7 +318,8 @@ def what_to_do(change, comparison):
     elif change.maps and other.is_symbol_file and not change.is_turned and len(change.maps) <= PRINTED:
         options.append("with " + " ".join("--map %s" % option_text(pair) for pair in change.maps))
     elif change.is_turned or change.maps:
-        others.append("write them as linetab-object files %s lists them" % shown(comparison.name))
+        by_maker = ", as linetab-table --paths-of %s does" % shown(comparison.name) if change.is_about_relative() else ""
+        others.append("write them as linetab-object files %s lists them%s" % (shown(comparison.name), by_maker))
     return ["check it %s" % " and ".join(options)] * bool(options) + others
 
 
@@ -334,9 +328,15 @@ def option_text(pair):
     return shlex.quote(path_text("=".join(pair)))
 
 
-def notes_to(comparison, question, words):
-    """A note of what the differences have in common, if anything is found. The answer stands without it."""
+def told_of(comparison, question, words):
+    """What the differences have in common, and what to do about it, or None if nothing is found. The answer stands without it."""
     try:
-        return Diagnosis(comparison, question, words).notes()
+        return Diagnosis(comparison, question, words).told()
     except (Unclear, Refusal, Failure, OSError, ValueError, LookupError, MemoryError):
-        return []
+        return None
+
+
+def notes_to(comparison, question, words):
+    """A note of that."""
+    told = told_of(comparison, question, words)
+    return ["%s: %s" % told] if told else []

@@ -4,14 +4,16 @@ DW_AT_stmt_list, its DW_AT_comp_dir, as comma-separated values `unit,directory`.
 It reads versions 2 to 5 in both formats and byte orders (DWARF 5, 7.5). Memory and time grow as the file does, whatever it holds."""
 
 import os
+import re
 from array import array
 from bisect import bisect_left
-from itertools import islice
+from itertools import filterfalse, islice
 
-from scripts.bounded import MOST, Part, Refusal, mapped
+from scripts.bounded import MOST, Part, Refusal, stored
 from scripts.object.cursor import Broken, Cursor
-from scripts.object.older import OLDER, counted, is_relative, paths, versions
+from scripts.object.older import OLDER, counted, paths, versions
 from scripts.object.program import unnamed
+from scripts.paths import is_full
 from scripts.telling import shown
 
 STMT_LIST, COMP_DIR, STR_OFFSETS_BASE = 0x10, 0x1B, 0x72
@@ -31,6 +33,9 @@ INFO, STR, LINE_STR, SUPPLEMENT = 1, 2, 3, 4
 SECTION_OF = {STRING: INFO, LINE_STRP: LINE_STR, STRP_SUP: SUPPLEMENT, STRP_ALT: SUPPLEMENT}
 NONE, UNREAD = 0, 255  # in their place, of a unit without a directory, and of one whose directory can't be read
 LONGEST = 1 << 12  # bytes of a directory: no system takes a longer one
+LEAST = 8  # bytes that a unit has behind its length: a version, a size of addresses, the offset of a table, and a code
+WINDOW = 1 << 16  # bytes in which units that are shorter are counted at once
+ZEROS = re.compile(rb"(?:\0\0\0\0)*")  # units of no byte
 
 
 def section_of(image, name):
@@ -44,7 +49,7 @@ def section_of(image, name):
         return data.part(offset, size)
     file = unnamed(image.pieces(name))
     try:
-        return mapped(file)
+        return stored(file)
     finally:
         os.close(file)
 
@@ -64,14 +69,33 @@ class Units:
         self.known = {}  # where the attributes of an abbreviation stand, by the offset of its table and its code
         self.left = 2 * (self.info.size + self.abbrev.size) + (1 << 16)  # bytes of abbreviations that are gone through
 
+    def short(self, at):
+        """How many units, of those from an offset on, end before their headers do, and where the last of them ends."""
+        window = self.info.part(at, WINDOW)
+        window, place, count = window.take(0, window.size), 0, 0
+        while place + 4 <= len(window):
+            length = int.from_bytes(window[place : place + 4], self.order)
+            if length >= LEAST or place + 4 + length > len(window):
+                break
+            units = (ZEROS.match(window, place).end() - place) // 4 or 1
+            place, count = place + 4 * units + length, count + units
+        return count, at + place
+
     def places(self):
-        """Of each unit where it begins, the unit of .debug_line that it names, where its directory stands, and why that isn't known."""
+        """Of each unit where it begins, the unit of .debug_line that it names, where its directory stands, why that isn't known, and how
+        many units there are of which the same is so."""
         at = 0
         while at < self.info.size:
+            head = self.info.part(at, 4)
+            count, behind = self.short(at) if int.from_bytes(head.take(0, head.size), self.order) < LEAST else (0, at)
+            if count:
+                yield at, None, None, Broken("it is cut"), count
+                at = behind
+                continue
             try:
                 unit = Unit(self, at)
             except Broken as fault:
-                yield at, None, None, fault
+                yield at, None, None, fault, 1
                 return
             place = fault = None
             try:
@@ -80,7 +104,7 @@ class Units:
                 fault = broken
             if unit.named is not None:
                 self.sizes.add(unit.address)
-            yield at, unit.named, place, fault
+            yield at, unit.named, place, fault, 1
             at = unit.after
 
     def texts_of(self, section):
@@ -281,11 +305,11 @@ class Directories:
         self.relative, self.example = 0, ""  # units without a directory that have relative paths, and one of these
         # No more is written than the file has, but for what stands in it more than once.
         self.left = 8 * (self.units.info.size + section.size) + (1 << 20)
-        for at, named, place, fault in self.units.places():
+        for at, named, place, fault, count in self.units.places():
             if named is not None and not self.is_older(named):
                 continue
             if fault is not None:
-                self.add_broken(at, ".debug_info", fault)
+                self.add_broken(at, ".debug_info", fault, count)
                 place = UNREAD, 0
             if named is not None and place is not None:
                 self.add(named, *place)
@@ -295,8 +319,8 @@ class Directories:
         k = bisect_left(self.lines, line)
         return k < len(self.lines) and self.lines[k] == line
 
-    def add_broken(self, at, section, fault):
-        self.broken += 1
+    def add_broken(self, at, section, fault, count=1):
+        self.broken += count
         self.first = self.first or "that of the unit at 0x%x of %s: %s" % (at, section, fault)
 
     def add(self, named, section, place):
@@ -314,7 +338,7 @@ class Directories:
 
     def add_without(self, line):
         """Counts a unit of .debug_line without a directory, if one of its first paths is relative."""
-        path = next(filter(is_relative, islice(paths(self.line, line, self.units.order), MOST)), None)
+        path = next(filterfalse(is_full, islice(paths(self.line, line, self.units.order), MOST)), None)
         if path is not None:
             self.relative += 1
             self.example = self.example or os.fsdecode(path)

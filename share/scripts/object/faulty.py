@@ -4,7 +4,7 @@ import itertools
 import re
 
 from scripts.bounded import Part, Refusal
-from scripts.kinds import BREAKPAD, HEAD, LLVM, MARK, NAMES, READELF, fields, first_line, kind_of, separator_of
+from scripts.kinds import BREAKPAD, HEAD, LINES, LLVM, MARK, NAMES, READELF, fields, first_line, kind_of, separator_of
 from scripts.object.tables import LAYOUTS, Unclear, layout_of, records
 from scripts.telling import shown
 
@@ -37,7 +37,7 @@ def unreadable(head, name):
     kind = kind_of(head)
     if head[:2] in (b"\xff\xfe", b"\xfe\xff") or head[:4].count(0) == 2 and head[:2].count(0) == 1:
         return "it is UTF-16, and has to be UTF-8: iconv -f UTF-16 -t UTF-8 %s" % name
-    if kind in (LLVM, READELF):
+    if kind in (LLVM, READELF, LINES):
         return "it is %s: linetab-table %s %s | linetab-object check PROGRAM -" % (NAMES[kind], kind, name)
     if SYMBOLS.match(head):
         return "it is %s without its first line, which begins with MODULE: it is cut" % NAMES[BREAKPAD]

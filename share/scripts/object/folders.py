@@ -4,6 +4,7 @@ import os
 
 from scripts.bounded import Nothing
 from scripts.object.image import READERS
+from scripts.object.jobs import Jobs, Work
 from scripts.object.output import Named, Standard
 from scripts.telling import ended_by, shown, tell
 from scripts.object.words import Usage
@@ -50,6 +51,12 @@ class Answers:
 
 def below(folder, answers):
     """The programs in a folder and in those in it, by their names. What can't be read is reported, and counted."""
+    for path in files_below(folder, answers):
+        yield from program_at(path, answers)
+
+
+def files_below(folder, answers):
+    """The regular files in a folder and in those in it, by their names."""
     waiting = [folder]
     while waiting:
         place = waiting.pop()
@@ -63,7 +70,7 @@ def below(folder, answers):
             if entry.is_dir(follow_symlinks=False):
                 inner.append(entry.path)
             elif entry.is_file(follow_symlinks=False):
-                yield from program_at(entry.path, answers)
+                yield entry.path
         waiting += reversed(inner)
 
 
@@ -77,24 +84,31 @@ def program_at(path, answers):
         answers.refuse(path, error)
 
 
+def named(given, answers):
+    """The files that are named, and the programs in the folders among them: each with whether it was found there."""
+    is_deep = "--recursive" in given.own
+    for name in given.files:
+        is_folder = is_deep and os.path.isdir(name)
+        for path in below(name, answers) if is_folder else [name]:
+            yield path, is_folder
+
+
 def all_answers(word, given, tried):
     """Runs a word on each file, and gives the exit status of all."""
     if "--output" in given.own:
         raise Usage("--output takes the answer about one FILE")
     answers = Answers(word, given)
-    is_deep = "--recursive" in given.own
-    if is_deep:
+    if "--recursive" in given.own:
         answers.passed = 0
-    for name in given.files:
-        is_folder = is_deep and os.path.isdir(name)
-        for path in below(name, answers) if is_folder else [name]:
-            status = one_answer(word, given, path, tried, is_folder)
-            if status == 2:
-                return status
-            if status is None:
-                answers.passed += 1
-            else:
-                answers.statuses.append(status)
+    works = (Work(one_answer, word, given, path, tried, is_found) for path, is_found in named(given, answers))
+    for job in Jobs(1 if given.files.count("-") > 1 else given.jobs()).ended(works):
+        job.pass_on(Standard())
+        if job.status == 2:
+            return job.status
+        if job.status is None:
+            answers.passed += 1
+        else:
+            answers.statuses.append(job.status)
     if not given.is_json:
         Standard().write(os.fsencode(answers.told()))
     return answers.status()

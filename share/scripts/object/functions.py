@@ -58,6 +58,11 @@ class Functions:
         """Where the section of code ends that has an address: a function whose size isn't known reaches no further."""
         return next((high for low, high in self.code if low <= address < high), BEYOND)
 
+    def begins_at(self, address):
+        """Whether a function begins at an address."""
+        k = bisect_right(self.starts, address) - 1
+        return k >= 0 and self.starts[k] == address
+
     def pieces(self, low, high):
         """A range of addresses in pieces: the name of the function that each is in, or None if it is in none, and its size."""
         while low < high:
@@ -106,8 +111,8 @@ def sized(size, is_first):
     return "%d%s" % (size, (" byte" if size == 1 else " bytes") if is_first else "")
 
 
-def readable(names):
-    """Names as they are written in C++, if a program is here that knows how, and no longer than a line."""
+def readable(names, longest=LONGEST):
+    """Names as they are written in C++, if a program is here that knows how, and no longer than that."""
     for program in ("c++filt", "llvm-cxxfilt"):
         try:
             done = subprocess.run([program], input="\n".join(names).encode("utf-8", "surrogateescape"), stdout=subprocess.PIPE, check=True)
@@ -116,4 +121,4 @@ def readable(names):
         found = os.fsdecode(done.stdout).splitlines()
         names = found if len(found) == len(names) else names
         break
-    return [name if len(name) <= LONGEST else name[: LONGEST - 2] + ".." for name in names]
+    return [name if longest is None or len(name) <= longest else name[: longest - 2] + ".." for name in names]

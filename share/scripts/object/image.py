@@ -58,12 +58,16 @@ class Image:
     def has(self, name):
         return name in self.sections
 
-    def pieces(self, name):
-        """The bytes of a section that is there, unpacked, in pieces."""
+    def part(self, name):
+        """The bytes of a section that is there, as the file has them, and the function that unpacks them, if any does."""
         data, offset, size, unpack = self.sections[name]
         if offset + size > data.size:
             raise Refusal("section %s reaches past the end of the file, which is cut or damaged" % name)
-        part = data.part(offset, size)
+        return data.part(offset, size), unpack
+
+    def pieces(self, name):
+        """The bytes of a section that is there, unpacked, in pieces."""
+        part, unpack = self.part(name)
         return unpack(name, part) if unpack else part.pieces()
 
     def head(self, name):

@@ -2,6 +2,7 @@
 
 import os
 
+from scripts.bounded import found_in
 from scripts.telling import shown
 
 # How notes of the program begin that are given here in other words.
@@ -15,18 +16,19 @@ DEAD, COPIES = "sequences begin at ", "the two hold the same positions"
 def discarded(section, image):
     """The addresses at which linkers leave discarded code, where bytes of an operation that sets one are in the section, and the file has
     no code there."""
-    for size in image.sizes:
-        for digit in (b"\0", b"\xff"):
-            address = int.from_bytes(digit * size, "big")
-            if section.find(bytes([0, size + 1, 2]) + digit * size) >= 0 and not image.has_code_at(address):
-                yield "0x%x" % address
+    marks = {bytes([0, size + 1, 2]) + digit * size: digit * size for size in image.sizes for digit in (b"\0", b"\xff")}
+    found = found_in(section.without_holes(), marks)
+    for mark, digits in marks.items():
+        address = int.from_bytes(digits, "big")
+        if mark in found and not image.has_code_at(address):
+            yield "0x%x" % address
 
 
 def marker_of(question):
     """The address at which the linker may have left sequences of discarded functions. The bytes of an operation that sets it may
     stand in another operand as well. Where no sequence begins there, --dead leaves nothing out, so of one address the program needn't
     be asked."""
-    markers = list(dict.fromkeys(discarded(question.section().whole, question.image)))
+    markers = list(dict.fromkeys(discarded(question.section(), question.image)))
     for marker in markers[:-1]:
         if NONE % marker not in question.verdict("--dead", marker)[1]:
             return marker

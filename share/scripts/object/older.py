@@ -9,6 +9,7 @@ from scripts.bounded import Refusal
 from scripts.object.cursor import Broken, Cursor
 from scripts.object.image import LINE
 from scripts.object.program import unnamed
+from scripts.paths import within
 
 OLDER = (2, 3, 4)
 TAKEN = {"--big", "--address-size", "--directories"}
@@ -17,12 +18,12 @@ TAKEN = {"--big", "--address-size", "--directories"}
 def versions(section, big):
     """The version of each unit and where it begins, as far as lengths separate units."""
     short, long = (struct.Struct((">" if big else "<") + layout) for layout in ("IH", "4xQH"))
-    whole, first, at = section.whole, section.start, 0
+    at = 0
     while at + 6 <= section.size:
-        length, version = short.unpack_from(whole, first + at)
+        length, version = short.unpack(section.take(at, 6))
         start = at + 4
         if length == 0xFFFFFFFF and at + 14 <= section.size:
-            length, version = long.unpack_from(whole, first + at)
+            length, version = long.unpack(section.take(at, 14))
             start = at + 12
         yield version, at
         at = start + length
@@ -62,12 +63,7 @@ def paths_in(cursor):
         if 0 < number < len(folders):
             start = folders[number - 1]
             folder = cursor.whole[start : folders[number] - 1]
-        yield os.path.join(folder, name)
-
-
-def is_relative(path):
-    """Whether a path isn't whole, neither as systems like Unix have them, nor as Windows does."""
-    return path[:1] not in (b"/", b"\\") and path[1:2] != b":"
+        yield within(folder, name)
 
 
 def counted(count, total):

@@ -1,7 +1,7 @@
 """Files in which there is nothing to judge: what each is, by its first bytes, and what to do next."""
 
 from scripts.bounded import Refusal, opened
-from scripts.kinds import BREAKPAD, GSYM, HEAD, LLVM, NAMES, PROGRAM, READELF, TABLE, kind_of
+from scripts.kinds import BREAKPAD, GSYM, HEAD, LINES, LLVM, NAMES, PROGRAM, READELF, TABLE, kind_of
 from scripts.object.image import OBJECT
 from scripts.telling import shown
 
@@ -31,7 +31,7 @@ KINDS = [
 
 COMPARED = "it is %s: linetab-object check PROGRAM FILE compares it with the program that it was made of"
 PRINTED = "it is %s: take the program that it was printed of"
-TEXTS = {**{kind: COMPARED % NAMES[kind] for kind in (BREAKPAD, GSYM, TABLE)}, **{kind: PRINTED % NAMES[kind] for kind in (LLVM, READELF)}}
+TEXTS = {**{kind: COMPARED % NAMES[kind] for kind in (BREAKPAD, GSYM, TABLE)}, **{kind: PRINTED % NAMES[kind] for kind in (LLVM, READELF, LINES)}}
 
 
 def head_of(data):

@@ -1,16 +1,18 @@
 """Where answers are written."""
 
+import contextlib
 import errno
 import os
 import re
+import signal
 import stat
 
 from scripts import bounded
 from scripts.bounded import PIECE, place_of
 from scripts.object.program import without_name
-from scripts.telling import put_whole, shown
+from scripts.telling import end, put_whole, shown
 
-
+ENDING = signal.SIGTERM, signal.SIGHUP, signal.SIGINT
 SAME = re.compile(rb'^unit [0-9]+ file [0-9]+ same "(.*)"$', re.M)  # a line of `md5`
 
 
@@ -41,8 +43,8 @@ class Standard:
 class Named(Standard):
     """Standard output, where answers about several files stand one behind another: each line has its file's name before it."""
 
-    def __init__(self, name):
-        self.name = os.fsencode(shown(name) + ": ")
+    def __init__(self, *names):
+        self.name = os.fsencode("".join(shown(name) + ": " for name in names))
         self.is_between = True  # whether no line is begun
 
     def write(self, piece):
@@ -118,12 +120,25 @@ class Whole(Standard):
                 return
             mode = stat.S_IMODE(there.st_mode)
         new = "%s.%d.new" % (self.place, os.getpid())
+        if not self.named(new, mode):
+            with removed_where_ended(new):
+                self.copy(os.open(new, os.O_WRONLY | os.O_CREAT | os.O_EXCL, 0o600), mode)
+                os.rename(new, self.place)
+
+    def named(self, new, mode):
+        """Gives the file itself its name, if it lies in the same folder. No signal ends this process between the two names."""
+        before = signal.pthread_sigmask(signal.SIG_BLOCK, ENDING)
         try:
-            self.copy(os.open(new, os.O_WRONLY | os.O_CREAT | os.O_EXCL, 0o600), mode)
+            os.fchmod(self.file, mode)
+            # By the descriptor the link is followed; the path is whole, so nothing is looked for in it.
+            os.link("/proc/self/fd/%d" % self.file, new, src_dir_fd=self.file, follow_symlinks=True)
             os.rename(new, self.place)
-        except BaseException:
+            return True
+        except OSError:
             remove(new)
-            raise
+            return False
+        finally:
+            signal.pthread_sigmask(signal.SIG_SETMASK, before)
 
     def copy(self, descriptor, mode=None):
         try:
@@ -133,6 +148,25 @@ class Whole(Standard):
                 os.fchmod(descriptor, mode)
         finally:
             os.close(descriptor)
+
+
+@contextlib.contextmanager
+def removed_where_ended(path):
+    """Removes a file where what is done meanwhile fails, and where a signal ends this process."""
+
+    def ended(number, _):
+        remove(path)
+        end(-number)
+
+    handlers = {number: signal.signal(number, ended) for number in ENDING[:2] if signal.getsignal(number) != signal.SIG_IGN}
+    try:
+        yield
+    except BaseException:
+        remove(path)
+        raise
+    finally:
+        for number, handler in handlers.items():
+            signal.signal(number, handler)
 
 
 def listed_in(answer):

@@ -3,7 +3,7 @@
 import os
 import sys
 
-from scripts.bounded import PIECE, Failure, mapped
+from scripts.bounded import PIECE, Failure, Stored, failure, stored
 from scripts.object.image import JUDGED, LINE, STRINGS
 from scripts.telling import put_error, put_whole
 
@@ -30,7 +30,7 @@ class Run:
             self.process = os.posix_spawn(LINETAB, ["linetab-object", *words], os.environ, file_actions=actions, setsigdef=IGNORED)
         except OSError as error:
             self.close()
-            raise Failure("the program linetab can't be run: %s" % error.strerror) from None
+            raise failure("the program linetab can't be run: %s", error) from None
         finally:
             for descriptor in theirs:
                 os.close(descriptor)
@@ -133,24 +133,52 @@ def without_name(folder):
             return os.dup(file.fileno())
 
 
-def written(step, *given):
-    """What a step gives by which a file without a name is made."""
+def written(what, step, *given):
+    """What a step gives by which a file without a name is made, and what that has."""
     try:
         return step(*given)
     except OSError as error:
-        raise Failure("its sections can't be written to a temporary file: %s" % error.strerror) from None
+        raise failure(what + " can't be written to a temporary file: %s", error) from None
 
 
-def unnamed(pieces):
+def unnamed(pieces, what="its sections"):
     """A file with these bytes and without a name, which is gone when no program has it open."""
-    file = written(without_name, os.environ.get("TMPDIR") or "/tmp")
+    file = written(what, without_name, os.environ.get("TMPDIR") or "/tmp")
     try:
         for piece in pieces:
-            written(put_whole, file, piece)
+            written(what, put_whole, file, piece)
     except BaseException:
         os.close(file)
         raise
     return file
+
+
+def copied(part, what="its sections"):
+    """A file with these bytes of another one and without a name. What takes no room there takes none here."""
+    if not isinstance(part.whole, Stored):
+        return unnamed(part.pieces(), what)
+    file = unnamed((), what)
+    try:
+        written(what, os.ftruncate, file, part.size)
+        for start, end in part.whole.extents(part.start, part.start + part.size):
+            copy_range(part, start - part.start, end - part.start, file, what)
+    except BaseException:
+        os.close(file)
+        raise
+    return file
+
+
+def copy_range(part, start, end, file, what):
+    """Copies some bytes of a part of a file to the same place in another file; the system does it, if it can."""
+    while start < end:
+        try:
+            size = os.copy_file_range(part.whole.descriptor, file, end - start, part.start + start, start)
+        except OSError:  # also where the files lie in different file systems
+            size = 0
+        if size == 0:
+            piece = part.take(start, min(end - start, PIECE))
+            size = written(what, os.pwrite, file, piece, start)
+        start += size
 
 
 class Question:
@@ -162,7 +190,8 @@ class Question:
         self.upgrading = "with --older"  # how others would be read too
         for name in JUDGED:
             if image.has(name):
-                self.put(name, unnamed(image.pieces(name)))
+                part, unpack = image.part(name)
+                self.put(name, unnamed(unpack(name, part)) if unpack else copied(part))
         self.options = {"--big": []} if image.big else {}
         self.options.update((option, [self.name_of(name)]) for option, name in STRINGS.items() if image.has(name))
 
@@ -193,7 +222,7 @@ class Question:
 
     def section(self):
         """The bytes of the line number section."""
-        return mapped(self.files[LINE])
+        return stored(self.files[LINE])
 
     def run(self, word, words, others=(), taken=None, is_fed=False):
         """A run of a word on the section, with the options that it takes, these words, and others behind the section."""

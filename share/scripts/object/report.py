@@ -7,6 +7,7 @@ import tempfile
 from collections import Counter
 
 from scripts.bounded import PIECE, Refusal
+from scripts.object.output import Standard
 from scripts.telling import ended_by
 
 NUMBER = re.compile(rb"no ([0-9]+) ")
@@ -104,6 +105,8 @@ class Report:
         if self.given.others:
             answered, total = self.facts.get("counts") or (None, None)
             fields.update(answered=answered, of=total, missing=self.missing())
+        if "summary" in self.facts:
+            fields["summary"] = [text_of(line) for line in self.facts["summary"]]
         fields["notes"] = [text_of(note) for note in self.notes]
         if not is_answer:
             reasons = self.reasons + [ended_by(status)] * (status < 0)
@@ -122,3 +125,11 @@ class Report:
             text = b"}"
         sink.write(text + b"\n")
         sink.end(status)
+
+
+def put_lack(program, symbols, line, identifier):
+    """Writes the object of a program without a symbol file, or of a symbol file without a program."""
+    names = {key: None if name is None else text_of(name) for key, name in (("file", program), ("symbols", symbols))}
+    fields = {**names, "identifier": identifier, "answer": "no", "number": None, "line": line, "answered": None, "of": None, "missing": {},
+              "notes": []}
+    Standard().write(json.dumps(fields).encode() + b"\n")

@@ -5,10 +5,10 @@ import stat
 import zlib
 from contextlib import contextmanager
 
-from scripts.bounded import ABSENT, PIECE, Failure, Refusal, mapped, standard_input
+from scripts.bounded import ABSENT, PIECE, Failure, Refusal, standard_input, stored
 from scripts.kinds import BREAKPAD, MAGICS
 from scripts.object.image import READERS
-from scripts.object.program import unnamed
+from scripts.object.program import Run, unnamed
 from scripts.telling import put_whole, shown
 
 GZIP = b"\x1f\x8b"
@@ -19,6 +19,16 @@ READ_TWICE = 16 << 20  # bytes of a GSYM file that is also read as older readers
 def kind_of(data):
     """Which kind of symbol file these bytes begin, or None."""
     return next((kind for magic, kind in MAGICS if data.has(magic)), None)
+
+
+def identifier_in(head, kind):
+    """The identifier of a build that a symbol file has which begins so, or None if it has none."""
+    if kind == BREAKPAD:
+        words = head.split(b"\n", 1)[0].split()
+        text = os.fsdecode(words[3]) if len(words) > 3 else ""
+    else:
+        text = head[28 : 28 + min(head[7], 20)].hex() if len(head) >= 48 else ""
+    return text if text.strip("0") else None
 
 
 def inflated(packed):
@@ -74,7 +84,7 @@ class Other:
             descriptor = os.open(self.name, os.O_RDONLY)
             try:
                 if stat.S_ISREG(os.fstat(descriptor).st_mode):
-                    return mapped(descriptor)
+                    return stored(descriptor)
                 data = self.keep(iter(lambda: os.read(descriptor, PIECE), b""))
             finally:
                 os.close(descriptor)
@@ -87,14 +97,14 @@ class Other:
             self.keep(standard_input())
             os.lseek(self.kept[-1], 0, os.SEEK_SET)
             os.dup2(self.kept[-1], 0)
-        return mapped(0)
+        return stored(0)
 
     def keep(self, pieces):
         """Keeps bytes in a file without a name, which programs inherit, and gives them."""
         file = unnamed(pieces)
         os.set_inheritable(file, True)
         self.kept.append(file)
-        return mapped(file)
+        return stored(file)
 
     def rewind(self):
         """Lets a second run of the program read it from its first byte on, where it is standard input."""
@@ -105,14 +115,9 @@ class Other:
         for file in self.kept:
             os.close(file)
 
-    def rewind(self):
-        """Has the next run of the program read standard input from its first byte on."""
-        if self.opened_as == "-":
-            os.lseek(0, 0, os.SEEK_SET)
-
     def table(self):
         """The bytes of the table, which is made of a symbol file."""
-        return mapped(self.kept[-1]) if self.is_symbol_file else self.data
+        return stored(self.kept[-1]) if self.is_symbol_file else self.data
 
     @property
     def is_symbol_file(self):
@@ -121,19 +126,9 @@ class Other:
     def is_program(self):
         return self.data is not None and any(self.data.has(magic) for magic, _ in READERS)
 
-    def lines(self):
-        """The lines of it, each with its end."""
-        return iter(self.data.whole.readline, b"") if self.data.size else iter(())
-
     def identifier(self):
         """The identifier of the build that it is of, or None if it has none."""
-        if self.kind == BREAKPAD:
-            words = self.data.part(0, 1 << 12).take(0, min(self.data.size, 1 << 12)).split(b"\n", 1)[0].split()
-            text = os.fsdecode(words[3]) if len(words) > 3 else ""
-        else:
-            size = self.data.take(7, 1)[0] if self.data.size >= 48 else 0
-            text = self.data.part(28, min(size, 20)).take(0, min(size, 20)).hex() if self.data.size >= 48 else ""
-        return text if text.strip("0") else None
+        return identifier_in(self.data.take(0, min(self.data.size, 1 << 12)), self.kind)
 
     @contextmanager
     def named(self):
@@ -143,22 +138,29 @@ class Other:
         except Refusal as refusal:
             raise Refusal(str(refusal), self.name) from None
 
-    def spans(self, base, first_row=False):
-        """The spans of a symbol file. Those of Breakpad count from `base`."""
+    def spans(self, first_row=False):
+        """The spans of a GSYM file, as they come."""
+        from scripts.table.gsym import spans_of
+
         with self.named():
-            if self.kind == BREAKPAD:
-                from scripts.table.breakpad import spans_of
+            yield from spans_of(self.data.whole, first_row)
 
-                self.data.whole.seek(0)
-                return spans_of(self.lines(), base)
-            from scripts.table.gsym import spans_of
-
-            return spans_of(self.data.whole, first_row)
+    def symbols(self, base):
+        """A run of the program linetab that prints the table of a symbol file of Breakpad, whose addresses count from `base`."""
+        with self.named():
+            if self.data.take(self.data.size - 1, 1) not in (b"\n", b"\r"):
+                raise Refusal("its last line, %d, has no end: it is cut" % sum(1 for _ in self.data.lines()))
+        self.rewind()
+        return Run(["symbols", "--quiet", "--base", "0x%x" % base, "--", self.opened_as])
 
     def put_table(self, spans):
         """Writes a table of spans, which the program linetab opens in place of the symbol file."""
         from scripts.table.spans import joined, table_of
 
         with self.named():
-            self.keep([table_of(joined(spans), False)])
+            self.put(table_of(joined(spans), False))
+
+    def put(self, pieces):
+        """Has these bytes be what the program linetab opens in place of the symbol file."""
+        self.keep(pieces)
         self.opened_as = "/proc/self/fd/%d" % self.kept[-1]

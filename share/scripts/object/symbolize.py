@@ -14,6 +14,7 @@ ADDRESS = re.compile(
     rb"|(?<![^\s\[\(<{])(%s{8,16})(?![^\s\]\)>}:;,])" % (HEX, HEX, HEX), re.M)
 OFFSET = 256  # bytes before an offset in which the name that it is of is looked for
 FEW = 512  # addresses that are asked at once
+BACKSLASH = rb"\x5c"  # as the program prints one
 
 
 def blocks(pieces):
@@ -42,8 +43,9 @@ def place_in(answer):
         return None
     words = start.split(b" ")
     numbers = dict(zip(words[1::2], words[2::2]))
-    # With a character that is escaped, a path stays between its quotes.
-    path = b'"' + path if b"\\" in path else path[:-1]
+    # With a character that is escaped, a path stays between its quotes, unless that is the backslash of Windows.
+    is_plain = b"\\" not in path.replace(BACKSLASH, b"")
+    path = path[:-1].replace(BACKSLASH, b"\\") if is_plain else b'"' + path
     return b"%s:%s:%s" % (path, numbers[b"line"], numbers[b"column"])
 
 
@@ -76,7 +78,7 @@ class Lookups:
             return number - self.taken_away
         before = block[max(0, match.start() - OFFSET) : match.start() - 1]
         name = before[1 + max(map(before.rfind, (b" ", b"\t", b"\n", b"(", b"[", b"<"))) :]
-        if name and b"/" not in name:
+        if name and b"/" not in name and b"\\" not in name:
             return None
         return number + (0 if self.image.kind == "ELF" else self.first)
 

@@ -62,6 +62,14 @@ def records(pieces):
         raise Unclear from None
 
 
+def spans_in(pieces):
+    """The spans of a table of version 4, as they come."""
+    read = records(pieces)
+    next(read, None)
+    for low, high, path, line in read:
+        yield int(low, 16), int(high, 16), (path.encode("latin-1"), int(line))
+
+
 def layout_of(header):
     found = next((layout for layout in LAYOUTS if layout.columns == header), None)
     if found is None:

@@ -22,6 +22,8 @@ GIVEN = {
     "--directories": "A file with the compilation directories of these units, in place of those of .debug_info, or - for standard input",
 }
 RECURSIVE = ("-r, --recursive", "Takes all programs in the folders among FILEs, and passes over what has no line numbers")
+PAIRS = ("-r, --recursive", "Compares the programs in a folder with what is in the folder SYMBOLS, paired by identifiers, or by names")
+JOBS = ("-j, --jobs <N>", "Takes so many files at a time, in place of as many as there are processors")
 BASE = ("--base <ADDRESS>", "The address at which the program was loaded, which is taken away from each address")
 JSON = ("--json", "Writes an object of JSON on a line for each answer, with its notes, in place of the answer")
 SYMBOLS = ("<SYMBOLS>", "An address table, a symbol file of Breakpad or a GSYM file, or - for standard input")
@@ -31,8 +33,14 @@ CHECK = [
     ("--base <ADDRESS>", "The address from which a symbol file of Breakpad counts, in place of that at which the program is loaded"),
     ("--map <FROM=TO>", "Puts TO in the place of FROM where a name in a symbol file begins so; can be given several times"),
     ("--max <N>", "With --all: ends at so many places where the two answer differently"),
+    ("--summary", "Says behind the answer how many addresses are right, what differs, where it is worst, and its cause"),
     JSON,
 ]
+# The words that are of this program alone, but for symbolize: what they do, and the options that they have of those of check.
+OF_ANSWERS = {"--partial", "--at-least", "--all", "--ends"}
+OF_BOTH = ("--any-build", "--base", "--map")
+GAPS = ("gaps", "Prints as CSV where a program has lines, and its table or symbol file has no answer")
+REPORT = ("report", "Writes a page of HTML about a program and its tables or symbol files")
 SYMBOLIZE = ("symbolize", "Passes a text through, with the path, line and column behind each address that is in it")
 MORE = "\nFor more information, try '--help'.\n"
 
@@ -41,8 +49,13 @@ MORE = "\nFor more information, try '--help'.\n"
 ELSEWHERE = {
     "--json": "%s takes %s, and no --json, which is for check and verify",
     "--max": "%s takes %s, and no --max, which is for check --all",
+    "--summary": "%s takes %s, and no --summary, which is for check",
     **dict.fromkeys(("-r", "--recursive"), "%s takes %s, and no folders, which -r is for"),
 }
+
+
+APART = "symbols"  # the word of linetab that isn't about a program
+EXCLUDING = [("--older", "--no-older"), ("--whole", "--partial")]
 
 
 class Usage(Exception):
@@ -82,10 +95,11 @@ class Word:
         # Its answer is bytes, and not lines, where it prints a section.
         self.takes_many = name not in ("convert", "upgrade") and len(self.arguments) == 1
         self.upgrades = name not in OF_BYTES  # without being asked
-        self.own = self.of_older() + [OUTPUT] + [RECURSIVE] * self.takes_many + [JSON] * (name == "verify")
+        self.own = self.of_older() + [OUTPUT] + [RECURSIVE, JOBS] * self.takes_many + [JSON] * (name == "verify")
         self.options = [(left, GIVEN.get(names_of(left)[-1], right)) for left, right in rows(text, "Options")]
         # What the program is asked in its place, with what else, and what it is fed first.
         self.engine, self.added, self.probe = name, [], b""
+        self.refused = set()  # options that it could take, and doesn't
         self.taken = {name for left, _ in self.options for name in names_of(left)}
 
     def of_older(self):
@@ -124,7 +138,40 @@ class Check(Word):
     def __init__(self, text):
         super().__init__("check", text.replace("<TABLE>", SYMBOLS[0]))
         self.arguments[1:] = [SYMBOLS]
-        self.own += CHECK
+        self.own += [PAIRS, JOBS, *CHECK]
+
+    def words_for(self, comparison):
+        """The options that are given for the program beside those that were typed."""
+        return comparison.words()
+
+    def passed_on(self, comparison):
+        """What writes the answer."""
+        return comparison.passed_on
+
+
+class Differing(Check):
+    """A word of this program alone about what `check` finds. It takes what that takes, but for what changes its answer."""
+
+    def __init__(self, named, text):
+        name, about = named
+        super().__init__(text)
+        self.name, self.engine = name, "check"
+        self.text = about + "\n" + self.text.partition("\n")[2].partition("\n\nThe number")[0]
+        self.usage = self.usage.replace(" check ", " %s " % name)
+        self.options = [row for row in self.options if names_of(row[0])[-1] not in OF_ANSWERS]
+        self.taken, self.refused = self.taken - OF_ANSWERS, OF_ANSWERS
+        self.own = [*self.of_older(), OUTPUT, *(row for row in CHECK if names_of(row[0])[0] in OF_BOTH)]
+        if name == REPORT[0]:
+            self.usage = self.usage.replace(SYMBOLS[0], SYMBOLS[0] + "...")
+            self.arguments[1] = (SYMBOLS[0] + "...", SYMBOLS[1])
+
+    def words_for(self, comparison):
+        return ["--all", "--ends"]
+
+    def passed_on(self, comparison):
+        from scripts.object import gaps
+
+        return gaps.Gaps(comparison).passed_on
 
 
 class Symbolize(Word):
@@ -162,15 +209,17 @@ class Given:
                 self.add_option(each, typed, valued, own)
         if not word.takes_many:
             self.files, self.others = self.files[:1], self.files[1:]
-        if {"--older", "--no-older"} <= self.names:
-            raise Usage("--older and --no-older exclude one another")
+        for one, other in EXCLUDING:
+            if {one, other} <= self.names:
+                raise Usage("%s and %s exclude one another" % (one, other))
         self.upgrades = "--older" in self.names or word.upgrades and "--no-older" not in self.names
         self.text = standard_input()  # what symbolize passes through
         self.is_quiet = "--quiet" in self.names
-        self.is_several = word.takes_many and (len(self.files) > 1 or "--recursive" in self.own)
+        self.is_several = word.takes_many and len(self.files) > 1 or "--recursive" in self.own
         self.is_json = "--json" in self.own
         self.base()
         self.most()
+        self.jobs()
 
     def add_option(self, each, typed, valued, own):
         name, equals, value = each.partition("=")
@@ -184,6 +233,8 @@ class Given:
             raise Usage("%s takes no value" % name)
         elif name in ELSEWHERE and name not in own:
             raise Usage(ELSEWHERE[name] % (self.word.name, self.word.taken_by_it()))
+        elif name in self.word.refused:
+            raise Usage("%s takes %s, and no %s, which is for check" % (self.word.name, self.word.taken_by_it(), name))
         if name in own and valued[name] and not value:
             raise Usage("%s wants a value" % name)
         self.names.add(own.get(name, name))
@@ -210,7 +261,7 @@ class Given:
 
         if not self.maps:
             return spans
-        return [(low, high, (changed(path), *rest)) for low, high, (path, *rest) in spans]
+        return ((low, high, (changed(path), *rest)) for low, high, (path, *rest) in spans)
 
     def words_of_section(self):
         """The options for the program that are about the section."""
@@ -242,16 +293,19 @@ class Given:
             return None
         if "--all" not in self.names:
             raise Usage("--max is for check --all")
-        if not (text.isascii() and text.isdigit() and len(text) <= 20 and int(text)):
-            raise Usage("--max wants a number from 1 on, and not %s" % shown(text))
-        return int(text)
+        return number_from_one("--max", text)
+
+    def jobs(self):
+        """How many files are taken at a time."""
+        text = self.own.get("--jobs")
+        return len(os.sched_getaffinity(0)) if text is None else number_from_one("--jobs", text)
 
     def inputs(self):
         """The names of the files that are read, as far as they are typed; - is standard input."""
         of_files = {name for left, _ in self.word.options if left.endswith("<FILE>") for name in names_of(left)}
         named = [option[0].split("=", 1) + option[1:] for option in self.options]
         values = [option[1] for option in named if option[0] in of_files and len(option) > 1]
-        return [*self.files, *(self.others if self.word.name == "check" else ()), *values, *["-"] * bool(self.word.probe)]
+        return [*self.files, *(self.others if self.word.engine == "check" else ()), *values, *["-"] * bool(self.word.probe)]
 
     def words(self):
         """The options for the program, without --quiet: its notes are left out here."""
@@ -260,6 +314,13 @@ class Given:
     def behind(self):
         """What stands behind the section."""
         return ["--"] * (self.is_closed and bool(self.others)) + self.others
+
+
+def number_from_one(name, text):
+    """The number that an option is given."""
+    if not (text.isascii() and text.isdigit() and len(text) <= 20 and int(text)):
+        raise Usage("%s wants a number from 1 on, and not %s" % (name, shown(text)))
+    return int(text)
 
 
 def without_size(usage):
@@ -286,26 +347,34 @@ def misused(word, given, needed=()):
         words += ["--address-size", "8"]
     status, _, said = asked([word.engine, *words, *word.added, *given.files[:1], *given.behind()])
     said = renamed(said)
-    if word.probe:
+    if word.name != word.engine:
         said = said.replace("linetab-object %s " % word.engine, "linetab-object %s " % word.name).replace(" [ADDRESS]...", "")
     put_usage(said)
     return status
 
 
+ENGINES = {SYMBOLIZE[0]: "lookup", GAPS[0]: "check", REPORT[0]: "check"}
+
+
 def known(name):
     """The exit status of the program's help of a word, and the word of this name, where there is one."""
-    status, text, said = asked(["lookup" if name == SYMBOLIZE[0] else name, "--help"])
+    if name == APART:
+        put_usage("error: linetab %s FILE reads a symbol file, and no program\n%s" % (APART, MORE))
+        return 2, None
+    status, text, said = asked([ENGINES.get(name, name), "--help"])
     put_usage(renamed(said))
     if status != 0:
         return status, None
     if name == "check":
         return status, Check(text)
+    if name in (GAPS[0], REPORT[0]):
+        return status, Differing(GAPS if name == GAPS[0] else REPORT, text)
     word = Word(name, text)
     return status, Symbolize(word) if name == SYMBOLIZE[0] else word
 
 
 def commands():
     """The part of the help that lists the words."""
-    listed = rows(asked(["--help"])[1], "Commands")
-    listed[-1:-1] = [SYMBOLIZE] if listed else []
+    listed = [row for row in rows(asked(["--help"])[1], "Commands") if row[0] != APART]
+    listed[-1:-1] = [SYMBOLIZE, GAPS, REPORT] if listed else []
     return table_of("Commands", listed) if listed else ""

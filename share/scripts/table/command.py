@@ -1,16 +1,18 @@
 """The makers, and what the words ask of them."""
 
 import argparse
+import errno
 import os
 import re
 import signal
 import sys
 
 from scripts import telling
-from scripts.bounded import Failure, Refusal
+from scripts.bounded import PIECE, Refusal, reason_of
+from scripts.object.program import unnamed
 from scripts.table.source import source
 from scripts.table.spans import joined, table_of
-from scripts.telling import hold_standard_descriptors, shown, tell
+from scripts.telling import escaped, hold_standard_descriptors, put_whole, shown, tell
 
 # ---- makers, each of which is read if it is asked for
 
@@ -19,14 +21,14 @@ def from_gsym(asked):
     from scripts.table.gsym import spans_of
 
     with source(asked) as file:
-        return spans_of(file.read(), first_row=asked.maker == "gsym-17")
+        yield from spans_of(file.read(), first_row=asked.maker == "gsym-17")
 
 
 def from_breakpad(asked):
     from scripts.table.breakpad import spans_of
 
     with source(asked) as file:
-        return spans_of(file, asked.base or 0)
+        yield from spans_of(file, asked.base or 0)
 
 
 def from_llvm_dwarfdump(asked):
@@ -41,6 +43,12 @@ def from_readelf(asked):
     return from_readelf(asked)
 
 
+def from_lines(asked):
+    from scripts.table.lines import from_lines
+
+    return from_lines(asked)
+
+
 def from_points(asked):
     from scripts.table.points import from_points
 
@@ -48,7 +56,7 @@ def from_points(asked):
 
 
 class Maker:
-    """A maker of tables: what it is called with, the options that are its own, and the function that gives spans."""
+    """A maker of tables: what it is called with, the options that are its own, and the function that gives spans, as they come."""
 
     def __init__(self, read, words=("FILE",), options=(), has_columns=lambda asked: False):
         self.read, self.words, self.options, self.has_columns = read, words, options, has_columns
@@ -57,7 +65,7 @@ class Maker:
 def dialect_of(asked):
     from scripts.table.points import dialect_of
 
-    return dialect_of(asked.command)
+    return dialect_of(asked.command, asked.like)
 
 
 MAKERS = {
@@ -66,7 +74,8 @@ MAKERS = {
     "breakpad": Maker(from_breakpad, options=("base",)),
     "llvm-dwarfdump": Maker(from_llvm_dwarfdump, options=("dead", "skip_copies"), has_columns=lambda asked: True),
     "readelf": Maker(from_readelf, options=("dead", "skip_copies")),
-    "points": Maker(from_points, words=("COMMAND", "FILE"), has_columns=lambda asked: dialect_of(asked).columns),
+    "lines": Maker(from_lines, has_columns=lambda asked: asked.has_columns),  # as soon as they are read
+    "points": Maker(from_points, words=("COMMAND", "FILE"), options=("like",), has_columns=lambda asked: dialect_of(asked).columns),
 }
 
 
@@ -75,7 +84,7 @@ MAKERS = {
 
 class Words(argparse.ArgumentParser):
     def error(self, message):
-        tell(message)
+        tell(escaped(message))
         sys.exit(2)
 
 
@@ -83,6 +92,14 @@ def an_address(text):
     if not re.fullmatch("0x[0-9a-fA-F]{1,16}", text):
         raise argparse.ArgumentTypeError("an address is 0x and 1 to 16 hexadecimal digits, and %s isn't" % shown(text))
     return int(text, 16)
+
+
+def a_dialect(text):
+    from scripts.table.points import DIALECTS
+
+    if all(text != dialect.name for dialect in DIALECTS):
+        raise argparse.ArgumentTypeError("COMMAND answers like addr2line, eu-addr2line or llvm-symbolizer, and not like %s" % shown(text))
+    return text
 
 
 def asked_for(typed):
@@ -93,6 +110,7 @@ def asked_for(typed):
     words.add_argument("--dead", type=an_address)
     words.add_argument("--skip-copies", action="store_true")
     words.add_argument("--base", type=an_address)
+    words.add_argument("--like", type=a_dialect)
     words.add_argument("--quiet", action="store_true")
     asked = words.parse_intermixed_args(typed)
     asked.maker = asked.words[0] if asked.words else ""
@@ -108,15 +126,15 @@ def asked_for(typed):
             words.error("--%s is for %s" % (option.replace("_", "-"), " and ".join(takers)))
     asked.command, asked.file = asked.words[1], asked.words[-1]
     if asked.maker == "points" and not dialect_of(asked):
-        words.error("%s: COMMAND is an addr2line, eu-addr2line or llvm-symbolizer, and named so" % shown(asked.command))
+        words.error("%s: COMMAND is an addr2line, eu-addr2line or llvm-symbolizer, and named so, or --like says which" % shown(asked.command))
     return asked
 
 
-def put(content):
+def put(pieces):
     """Writes to standard output, without a word if the pipe is closed, as `head` does, and gives the exit status."""
     try:
-        with os.fdopen(1, "wb", closefd=False) as out:
-            out.write(content)
+        for piece in pieces:
+            put_whole(1, piece)
         return 0
     except OSError as error:
         if not isinstance(error, BrokenPipeError):
@@ -125,7 +143,7 @@ def put(content):
 
 
 def table_for(asked):
-    """The bytes of the table."""
+    """The bytes of the table, in pieces."""
     maker = MAKERS[asked.maker]
     if not asked.paths_of:
         return table_of(joined(maker.read(asked)), maker.has_columns(asked))
@@ -133,6 +151,14 @@ def table_for(asked):
 
     whole = Whole(asked.paths_of)
     return table_of(joined(with_whole_paths(maker.read(asked), whole)), maker.has_columns(asked))
+
+
+def put_table(asked):
+    """Writes the table, once all of it is made, and gives the exit status. Until then it is in a file without a name, since a short file
+    may make a long table."""
+    file = unnamed(table_for(asked), "the table")
+    os.lseek(file, 0, os.SEEK_SET)
+    return put(iter(lambda: os.read(file, PIECE), b""))
 
 
 # ---- what it says of itself
@@ -170,25 +196,27 @@ def version():
 
     status, text, said = asked(["--version"])
     telling.put_error(os.fsencode(said))
-    return put(os.fsencode(text.replace("linetab ", "linetab-table ", 1))) if status == 0 else 3
+    return put([os.fsencode(text.replace("linetab ", "linetab-table ", 1))]) if status == 0 else 3
 
 
 def begin(about, typed):
     """Does what the words ask for, and gives the exit status."""
     first = typed[0] if typed else ""
     if first in ("--help", "-h", "help"):
-        return put(about.lstrip().encode())
+        return put([about.lstrip().encode()])
     if first in ("--version", "-V"):
         return version()
     if first in MAKERS and not {"--help", "-h"}.isdisjoint(typed[1:]):
-        return put(help_of(about, first).encode())
+        return put([help_of(about, first).encode()])
     asked = asked_for(typed)
     telling.is_quiet = asked.quiet
     try:
-        return put(table_for(asked))
+        return put_table(asked)
     except Refusal as refusal:
         tell("%s: %s" % (shown(asked.file), refusal))
     except OSError as error:
+        if error.errno == errno.ENOMEM:
+            raise
         tell("%s: cannot read it: %s" % (shown(error.filename or asked.file), error.strerror))
     return 3
 
@@ -199,10 +227,7 @@ def main(about):
     signal.signal(signal.SIGINT, signal.SIG_DFL)
     try:
         status = begin(about, sys.argv[1:])
-    except (Failure, Refusal) as fault:
-        tell(str(fault))
-        status = 3
-    except MemoryError:
-        tell("out of memory")
-        status = 4
+    except Exception as fault:
+        reason, status = reason_of(fault)
+        tell(reason)
     sys.exit(status)

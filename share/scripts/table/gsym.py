@@ -2,10 +2,14 @@
 
 import itertools
 import struct
+import sys
+from array import array
 
 from scripts.bounded import Refusal, leb
 from scripts.table.source import CUT
 from scripts.table.spans import BEYOND, FIRST, LONGEST, steps
+
+KEPT = 256  # paths of files
 
 
 class Gsym:
@@ -18,31 +22,44 @@ class Gsym:
         self.data, self.paths = data, {}
         _, version, width, _, base, count, strings, strings_size = self.numbers("IHBBQIII", 0)
         if version != 1:
-            raise Refusal("it is a GSYM file of version %d, of which nothing is known here" % version)
+            raise Refusal("GSYM version %d is not supported" % version)
         kind = {1: "B", 2: "H", 4: "I", 8: "Q"}.get(width)
         if kind is None or strings + strings_size > len(data):
             raise Refusal(CUT)
-        self.starts = [base + offset for offset in self.numbers("%d%s" % (count, kind), 48)]
         at = -(-(48 + width * count) // 4) * 4
-        self.infos = self.numbers("%dI" % count, at)
+        self.base, self.starts, self.infos = base, self.listed(kind, count, 48), self.listed("I", count, at)
         (self.file_count,) = self.numbers("I", at + 4 * count)
         self.files = at + 4 * count + 4
-        self.strings = data[strings : strings + strings_size]
+        self.strings = strings, strings + strings_size
         # What may still be read of line tables. Those of two functions have no byte in common, so it is enough.
         self.left = len(data)
 
     def numbers(self, layout, at):
-        return struct.unpack_from(self.order + layout, self.data, at)
+        return struct.unpack(self.order + layout, self.data[at : at + struct.calcsize("=" + layout)])
+
+    def listed(self, kind, count, at):
+        """So many numbers of a kind, one behind the other."""
+        listed = array(kind)
+        content = self.data[at : at + count * listed.itemsize]
+        if len(content) < count * listed.itemsize:
+            raise Refusal(CUT)
+        listed.frombytes(content)
+        if (self.order == "<") != (sys.byteorder == "little"):
+            listed.byteswap()
+        return listed
 
     def text(self, offset):
-        end = self.strings.find(b"\0", offset, offset + LONGEST + 1)
-        return self.strings[offset : end if end >= 0 else offset + LONGEST + 1]
+        start, end = self.strings
+        start = min(start + offset, end)
+        return self.data[start : min(start + LONGEST + 1, end)].split(b"\0", 1)[0]
 
     def path(self, number):
         """The path of a file: its directory and its name, or nothing where it has neither."""
         if number not in self.paths:
             if number >= self.file_count:
                 raise Refusal("it has no file %d, which a line table names" % number)
+            if len(self.paths) == KEPT:
+                self.paths.clear()
             folder, name = map(self.text, self.numbers("II", self.files + 8 * number))
             separator = b"\\" if b"\\" in folder and b"/" not in folder else b"/"
             if folder and not folder.endswith(separator):
@@ -53,19 +70,26 @@ class Gsym:
     def functions(self):
         """Each function: where it answers, its own start, and where its info begins. Of several that start at one address each
         answers where those before it don't."""
-        if any(low > high for low, high in zip(self.starts, self.starts[1:])) or self.starts and self.starts[-1] >= BEYOND:
+        starts = self.starts
+        if any(low > high for low, high in zip(starts, starts[1:])) or starts and self.base + starts[-1] >= BEYOND:
             raise Refusal(CUT)
-        for start, group in itertools.groupby(range(len(self.starts)), key=self.starts.__getitem__):
-            group = list(group)
-            following = self.starts[group[-1] + 1] if group[-1] + 1 < len(self.starts) else BEYOND - 1
-            low = start
-            for number in group:
-                (size,) = self.numbers("I", self.infos[number])
-                # One without a size, as of Darwin's symbols, goes up to the next.
-                high = min(start + size, following) if size else following
-                if low < high:
-                    yield low, high, start, self.infos[number]
-                    low = high
+        first = 0
+        for offset, group in itertools.groupby(starts):
+            behind = first + sum(1 for _ in group)
+            following = self.base + starts[behind] if behind < len(starts) else BEYOND - 1
+            yield from self.answering(self.base + offset, following, self.infos[first:behind])
+            first = behind
+
+    def answering(self, start, following, infos):
+        """The functions that start at one address, of which the next ones start at another."""
+        low = start
+        for info in infos:
+            (size,) = self.numbers("I", info)
+            # One without a size, as of Darwin's symbols, goes up to the next.
+            high = min(start + size, following) if size else following
+            if low < high:
+                yield low, high, start, info
+                low = high
 
     def line_table(self, info):
         """The bytes of a function's line table, or none where it has none or no name."""
@@ -111,18 +135,17 @@ class Gsym:
 
     def rows_up_to(self, table, start, high):
         """The rows below an address, with their answers, and its end."""
-        rows = []
         for address, file, line in self.rows(table, start):
             if address >= high:
                 break
             path = file and self.path(file)
-            rows.append((address, (path, line) if path else None))
-        return rows + [(high, None)]
+            yield address, (path, line) if path else None
+        yield high, None
 
     def spans(self, first_row):
         for low, high, start, info in self.functions():
             table = self.line_table(info)
-            rows = self.rows_up_to(table, start, high) if table else []
+            rows = self.rows_up_to(table, start, high) if table else ()
             for row_low, row_high, answer in steps(first_rows(rows) if first_row else rows):
                 if row_high > low:
                     yield max(low, row_low), row_high, answer
@@ -135,19 +158,19 @@ def number(table, at, signed=False):
 
 def first_rows(rows):
     """Rows that answer at an address with several as the first does, and behind it as the last."""
-    changed = []
     for address, group in itertools.groupby(rows, key=FIRST):
-        answers = [answer for _, answer in group]
-        changed.append((address, answers[0]))
-        if len(answers) > 1:
-            changed.append((address + 1, answers[-1]))
-    return changed
+        count = 0
+        for count, (_, answer) in enumerate(group, 1):
+            if count == 1:
+                yield address, answer
+        if count > 1:
+            yield address + 1, answer
 
 
 def spans_of(data, first_row=False):
-    """The spans of a GSYM file; with `first_row` as readers up to LLVM 17 answer at an address with several rows: by the first of
-    them there, and by the last behind it."""
+    """The spans of a GSYM file, as they come; with `first_row` as readers up to LLVM 17 answer at an address with several rows: by the
+    first of them there, and by the last behind it."""
     try:
-        return list(Gsym(data).spans(first_row))
+        yield from Gsym(data).spans(first_row)
     except (struct.error, IndexError):
         raise Refusal(CUT) from None

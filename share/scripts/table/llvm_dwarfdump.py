@@ -1,10 +1,12 @@
 """What `llvm-dwarfdump --debug-line` prints."""
 
+import functools
 import re
 
 from scripts.bounded import Refusal
+from scripts.paths import within
 from scripts.table.source import CUT, source
-from scripts.table.spans import in_order, live
+from scripts.table.sequences import spans_of
 
 ENTRY = re.compile(rb'(include_directories|file_names)\[ *([0-9]{1,19})\](?: = "(.*)")?')
 ROW = re.compile(rb"0x[0-9a-f]{8,16} +[0-9]{1,19} +[0-9]{1,19} +[0-9]{1,19} +[0-9]{1,19} +[0-9]{1,19}\b")
@@ -17,35 +19,30 @@ def unescaped(text):
     return ESCAPE.sub(lambda it: MEANT[it[1]] if it[1] in MEANT else bytes([int(it[1], 8) & 0xFF]), text or b"")
 
 
-def within(directory, name):
-    """The path of a name in a directory; one that begins with / is whole."""
-    if name.startswith(b"/") or not directory:
-        return name
-    return directory + (b"" if directory.endswith(b"/") else b"/") + name
+def whole(parts):
+    return functools.reduce(within, parts)
 
 
 class Unit:
     """The directories and files of a unit, as its header lists them."""
 
     def __init__(self):
-        self.directories, self.names, self.places, self.paths = {}, {}, {}, {}
+        self.directories, self.names, self.places, self.known = {}, {}, {}, {}
 
-    def path(self, number):
-        """The whole path of a file: a relative one stands in its directory, and a relative directory in directory 0."""
-        if number not in self.paths:
+    def parts(self, number):
+        """The whole path of a file in its parts: a relative one stands in its directory, and a relative directory in directory 0."""
+        if number not in self.known:
             if number not in self.names:
                 raise Refusal("it has no file %d, which a row names, or is of another kind of print" % number)
             place = self.places.get(number, 0)
-            directory = self.directories.get(place, b"")
-            if place:
-                directory = within(self.directories.get(0, b""), directory)
-            self.paths[number] = within(directory, self.names[number])
-        return self.paths[number]
+            folders = [self.directories.get(k, b"") for k in ((0, place) if place else (0,))]
+            self.known[number] = (*folders, self.names[number])
+        return self.known[number]
 
 
 def printed_rows(lines):
-    """The rows of each sequence that llvm-dwarfdump prints."""
-    unit, number, rows = None, None, []
+    """The rows that llvm-dwarfdump prints."""
+    unit = number = None
     for line in lines:
         entry = ENTRY.match(line)
         if line.startswith(b"debug_line["):
@@ -62,20 +59,15 @@ def printed_rows(lines):
             unit.places[number] = int(line[17:40])
         elif ROW.match(line):
             address, source_line, column, file, *rest = line.split()
-            answer = None if b"end_sequence" in rest else (unit.path(int(file)), int(source_line), int(column))
-            rows.append((int(address, 16), answer))
-            if answer is None:
-                yield rows
-                rows = []
+            answer = None if b"end_sequence" in rest else (unit.parts(int(file)), int(source_line), int(column))
+            yield int(address, 16), answer
     if unit is None:
         raise Refusal("it isn't what llvm-dwarfdump --debug-line prints of a program with a line number section")
-    if rows:
-        raise Refusal("it ends within a sequence: it is cut")
 
 
 def from_llvm_dwarfdump(asked):
     try:
         with source(asked) as file:
-            return in_order(live(printed_rows(file), asked))
+            return spans_of(printed_rows(file), asked, whole)
     except ValueError:
         raise Refusal(CUT) from None

@@ -1,5 +1,6 @@
 """What a program says of each address that it is asked."""
 
+import errno
 import itertools
 import os
 import re
@@ -11,30 +12,33 @@ from scripts.bounded import Refusal, opened
 from scripts.kinds import HEAD
 from scripts.object.image import image_of, inside
 from scripts.table.source import refuse_foreign
-from scripts.table.spans import BEYOND, joined
+from scripts.table.spans import BEYOND, joined, meant
 from scripts.telling import shown
 
 
 class Dialect:
-    """How a program is asked about addresses: its words, and what it says of each after the address."""
+    """How a program is asked about addresses: its words, and what it says of each after the address. `mark` is in the names of such
+    programs."""
 
-    def __init__(self, mark, words, answer, columns, closing):
-        self.mark, self.words, self.columns = mark, words, columns
+    def __init__(self, name, mark, words, answer, columns, closing):
+        self.name, self.mark, self.words, self.columns = name, mark, words, columns
         self.answer = re.compile(answer, re.DOTALL)
         self.closing = closing  # whether an empty line ends each answer
 
 
 DIALECTS = [
-    Dialect("symbolizer", ["--functions=none", "--no-inlines", "--addresses", "--obj"], rb"(.*):([0-9]{1,19}):([0-9]{1,19})", True, True),
-    Dialect("eu-addr2line", ["-a", "-e"], rb"(.*?):([0-9]{1,19})(?::([0-9]{1,19}))?", True, False),
-    Dialect("addr2line", ["-a", "-e"], rb"(.*):([0-9]{1,19}|\?)(?: \(discriminator [0-9]+\))?", False, False),
+    Dialect("llvm-symbolizer", "symbolizer", ["--functions=none", "--no-inlines", "--addresses", "--obj"],
+            rb"(.*):([0-9]{1,19}):([0-9]{1,19})", True, True),
+    Dialect("eu-addr2line", "eu-addr2line", ["-a", "-e"], rb"(.*?):([0-9]{1,19})(?::([0-9]{1,19}))?", True, False),
+    Dialect("addr2line", "addr2line", ["-a", "-e"], rb"(.*):([0-9]{1,19}|\?)(?: \(discriminator [0-9]+\))?", False, False),
 ]
 BLOCK = 4096
 
 
-def dialect_of(command):
+def dialect_of(command, like=None):
+    """How a command is asked: as the one that it is like, or else by its own name."""
     name = os.path.basename(command)
-    return next((dialect for dialect in DIALECTS if dialect.mark in name), None)
+    return next((dialect for dialect in DIALECTS if (dialect.mark in name if like is None else dialect.name == like)), None)
 
 
 def code_of(asked):
@@ -67,8 +71,14 @@ class Asked:
         try:
             self.run = subprocess.Popen(words, stdin=subprocess.PIPE, stdout=subprocess.PIPE, stderr=self.said, bufsize=1 << 16)
         except OSError as error:
+            if error.errno == errno.ENOMEM:
+                raise
             raise Refusal("%s can't be run: %s" % (self.name, error.strerror)) from None
-        threading.Thread(target=self.ask, daemon=True).start()
+        try:
+            threading.Thread(target=self.ask, daemon=True).start()
+        except RuntimeError:
+            self.run.kill()
+            raise MemoryError from None
 
     def ask(self):
         try:
@@ -115,17 +125,13 @@ class Asked:
         match = self.dialect.answer.fullmatch(text.rstrip(b"\n"))
         if not match:
             raise ValueError
-        path, *numbers = match.groups()
-        # Of code without line information addr2line says the name of a file that the symbol table has, and no line.
-        if path == b"??" or numbers == [b"?"] and b"/" not in path:
-            return None
-        return path, *(int(number) if number and number != b"?" else 0 for number in numbers)
+        return meant(*match.groups())
 
 
 def from_points(asked):
     path, code = code_of(asked)
-    program = Asked(asked.command, dialect_of(asked.command), path, code)
+    program = Asked(asked.command, dialect_of(asked.command, asked.like), path, code)
     try:
-        return list(joined(program.spans()))
+        yield from joined(program.spans())
     except ValueError:
         raise program.failed() from None

@@ -4,7 +4,7 @@ import re
 
 from scripts.bounded import Refusal
 from scripts.table.source import source
-from scripts.table.spans import in_order, live
+from scripts.table.sequences import spans_of
 
 ADDRESS = re.compile(rb"(0x[0-9a-f]{1,16}|0)(?:\[[0-9]+\])?")
 NUMBER = re.compile(rb"[0-9]{1,19}")
@@ -31,18 +31,16 @@ def path_of_row(name, heading):
 
 
 def decoded_rows(lines):
-    """The rows of each sequence that readelf prints, with the paths that stand above them."""
+    """The rows that readelf prints, with the paths that stand above them."""
     unit = heading = None
-    rows = []
     for line in lines:
         line = line.rstrip(b"\r\n")
         row = decoded(line) if heading is not None else None
         if row:
             name, number, address = row
-            rows.append((address, None if number is None else (path_of_row(name, heading), number)))
+            yield address, None if number is None else (path_of_row(name, heading), number)
             if number is None:
-                yield rows
-                rows, heading = [], unit
+                heading = unit
         elif line.startswith(b"CU: ") and line.endswith(b":"):
             unit = heading = line[4:-1]
         elif line.endswith((b":", b":[++]")) and not line.startswith(b"Contents of "):
@@ -51,10 +49,8 @@ def decoded_rows(lines):
             heading = line[: line.rindex(b":")]
     if unit is None:
         raise Refusal("it isn't what readelf --wide --debug-dump=decodedline prints of a program with a line number section")
-    if rows:
-        raise Refusal("it ends within a sequence: it is cut")
 
 
 def from_readelf(asked):
     with source(asked) as file:
-        return in_order(live(decoded_rows(file), asked))
+        return spans_of(decoded_rows(file), asked, bytes)

@@ -1,10 +1,9 @@
 """Spans: low, high and the answer, which is a path with its line, and in some a column."""
 
-import io
 import operator
 import re
 
-from scripts.bounded import Refusal
+from scripts.bounded import PIECE, Refusal
 from scripts.telling import note
 
 # Longer paths are refused: each span has its path, so a long one that many share would be a table much longer than FILE.
@@ -17,12 +16,22 @@ def counted(number, what):
     return "%d %s%s" % (number, what, "" if number == 1 else "s")
 
 
+def meant(path, *numbers):
+    """The answer of a path and numbers as tools print them, of which some may be missing; none where nothing is known."""
+    # Of code without line information addr2line says the name of a file that the symbol table has, and no line.
+    if path == b"??" or numbers[0] == b"?" and b"/" not in path:
+        return None
+    return path, *(int(number) if number and number != b"?" else 0 for number in numbers)
+
+
 def steps(rows):
     """Of rows, which are an address and the answer from there on, each two at different addresses that follow one another make a
     span; the answer of the last is none."""
-    for (low, answer), (high, _) in zip(rows, rows[1:]):
-        if low < high and answer:
+    low = answer = None
+    for high, following in rows:
+        if answer and low < high:
             yield low, high, answer
+        low, answer = high, following
 
 
 def joined(spans):
@@ -39,14 +48,10 @@ def joined(spans):
         yield last
 
 
-def in_order(spans):
-    return sorted(spans, key=FIRST)
-
-
 def apart(ranges, what):
-    """Ranges in the order of their lows, without those that begin below the end of one before."""
+    """Of ranges in the order of their lows those that don't begin below the end of one before."""
     end, left_out = 0, 0
-    for it in in_order(ranges):
+    for it in ranges:
         if it[0] < end:
             left_out += 1
             continue
@@ -57,32 +62,21 @@ def apart(ranges, what):
 
 
 def table_of(spans, columns):
-    """The bytes of the table."""
-    out = io.BytesIO()
-    out.write(b"low,high,path,line,column\n" if columns else b"low,high,path,line\n")
+    """The bytes of the table, in pieces, as the spans come."""
+    piece = bytearray(b"low,high,path,line,column\n" if columns else b"low,high,path,line\n")
     record = b"0x%x,0x%x,%s,%d,%d\n" if columns else b"0x%x,0x%x,%s,%d\n"
     for low, high, (path, *numbers) in spans:
         if len(path) > LONGEST:
             raise Refusal("a path in it has more than %d bytes" % LONGEST)
-        out.write(record % (low, high, quoted(path), *numbers))
-    return out.getbuffer()
+        piece += record % (low, high, quoted(path), *numbers)
+        if len(piece) >= PIECE:
+            yield piece
+            piece = bytearray()
+    yield piece
 
 
 def quoted(path):
     return b'"' + path.replace(b'"', b'""') + b'"' if re.search(rb'[",\r\n]', path) else path
-
-
-def live(sequences, asked):
-    """The spans of sequences, but for those that were discarded and, where copies are skipped, those of copies."""
-    seen, same = set(), {}
-    for rows in sequences:
-        extent = rows[0][0], rows[-1][0]
-        if extent[0] == asked.dead or asked.skip_copies and extent in seen:
-            continue
-        seen.add(extent)
-        for low, high, answer in joined(steps(rows)):
-            # Of answers that are the same one is held.
-            yield low, high, same.setdefault(answer, answer)
 
 
 def first_difference(ours, theirs):

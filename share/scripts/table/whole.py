@@ -9,6 +9,7 @@ import subprocess
 import sys
 
 from scripts.bounded import Refusal
+from scripts.paths import behind, is_full
 from scripts.telling import note, shown
 
 OBJECT = os.path.join(os.path.dirname(os.path.realpath(sys.argv[0])), "linetab-object")
@@ -51,10 +52,10 @@ class Whole:
     def of(self, path):
         if path in self.paths:
             return path
-        if path.startswith(b"/"):
-            # readelf writes the directory before names that begin with / too.
-            behind = path[path.rfind(b"//") + 1 :]
-            return behind if behind in self.paths else path
+        if is_full(path):
+            # readelf writes the directory before names that are full too.
+            name = behind(path)
+            return name if name in self.paths else path
         if path not in self.found:
             self.found[path] = self.completed(path)
         return self.found[path]
