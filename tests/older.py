@@ -14,7 +14,8 @@ import re
 import sys
 from dataclasses import dataclass
 
-from line_section import STRING, UDATA, Cursor, No, Numbers, decimal, frames, header_end, header_numbers, held, malformed, records
+from line_section import (STRING, UDATA, Cursor, Machine, No, Numbers, Unit, decimal, frames, header_end, header_numbers, held, malformed,
+                          operation_in, records)
 from line_writer import DIRECTORIES, PATHS, Program, Shape, extended, leb, numbers, picked_unit, write_case
 
 # The entries of a list have no format before them. These formats are as they are spelled: a path; and a path, a directory, a time and
@@ -84,6 +85,32 @@ def written(unit, address_size, directory):
     return shape.frame(counted)
 
 
+def zero_row(unit, address_size):
+    """The first row of an older unit that isn't an end row and names file 0, which is no file there, as far as its program can be read and
+    its lines are in range. None if there is none."""
+    cursor = Cursor(unit.program, 0, len(unit.program), unit.order)
+    machine, count = Machine(Unit(unit.offset, address_size, unit.numbers, None, None, [])), 0
+    while cursor.place < cursor.limit:
+        try:
+            operation = operation_in(cursor, unit.numbers, address_size)
+        except No:
+            return None
+        row = machine.step(operation)
+        if not 0 <= machine.row.line < 1 << 32:
+            return None
+        if row and operation.kind != "extended" and not row.file:
+            return count
+        count += row is not None
+    return None
+
+
+def judge_rows(units, address_size):
+    for unit in units:
+        row = zero_row(unit, address_size) if unit.files else None
+        if row is not None:
+            raise No("no 30 file number unit 0x%x row %d file 0" % (unit.offset, row))
+
+
 def directories_of(data, offsets):
     """The directory of each unit that a file tells one of, by the unit's offset."""
     found, least = {}, 0
@@ -102,10 +129,12 @@ def upgraded(data, order, address_size, told=None):
     """What is printed of a section and the bytes of a file of directories, and the status."""
     try:
         units = list(units_of(data, order))
-        offsets = {unit.offset for unit in units if isinstance(unit, Older)}
-        directories = {} if told is None else directories_of(told, offsets)
-        return b"".join(written(unit, address_size, directories.get(unit.offset, b"")) if isinstance(unit, Older) else unit
-                        for unit in units), 0
+        older = [unit for unit in units if isinstance(unit, Older)]
+        directories = {} if told is None else directories_of(told, {unit.offset for unit in older})
+        printed = b"".join(written(unit, address_size, directories.get(unit.offset, b"")) if isinstance(unit, Older) else unit
+                           for unit in units)
+        judge_rows(older, address_size)
+        return printed, 0
     except No as no:
         return b"%s\n" % str(no).encode(), 1
 
@@ -143,10 +172,11 @@ def picked_file(picked, directories):
 
 
 def picked_program(picked, shape, files, places):
-    """Operations, or bytes that are none: a program is copied, whatever it has."""
+    """Operations, some of which may name file 0, or bytes that are none: a program is copied, whatever it has."""
     if picked.randrange(12) == 0:
         return picked.randbytes(picked.randrange(20))
-    program = Program(picked, shape, range(1, files + 1) if files else [1])
+    first = 0 if picked.randrange(12) == 0 else 1
+    program = Program(picked, shape, range(first, files + 1) if files else [1])
     for place in places:
         if picked.randrange(8) == 0:
             program.bytes += extended(3, b"new.c\0\0\0\0")

@@ -11,6 +11,8 @@ use Rattle.lnt_unit.specs.declared.convert.ConvertFault.{ConvertFault}
 use Rattle.lnt_unit.specs.declared.convert.ConvertFault.TheVariants.{Malformed, TooLarge, Memory}
 use Rattle.lnt_unit.specs.FaultTexts.{convert_fault_text}
 use Rattle.lnt_text.specs.Texts.{malformed_text}
+use Rattle.lnt_wire.specs.FaultTexts.{hexadecimal}
+use Rattle.lnt_older.specs.FileZero.{AllNameFiles}
 use Rattle.lnt_older.specs.Sections.{IsUpgraded, AreListed, IsUpgradeFault}
 use Rattle.lnt_older.specs.declared.directories.Directory.{Directory}
 use Rattle.lnt_older.specs.declared.section.UpgradeFault.{UpgradeFault}
@@ -45,18 +47,23 @@ IsConversionBegun order section format to old new =
 
 -- ---- what was written if a section was written anew, or wasn't, or if that stopped
 
+-- which row names file 0 of an older unit, which isn't listed
+abbrev pub file_zero_text : ℕ → ℕ → List ℕ
+file_zero_text unit row = codes "no 30 file number unit " ++ (hexadecimal unit ++ (codes " row " ++ (decimal row ++ codes " file 0")))
+
 -- why a section isn't written anew; for lack of memory nothing is printed
 abbrev pub upgrade_refusal : UpgradeFault → List ℕ
 upgrade_refusal (upgrade.Malformed fault) = malformed_text fault ++ codes "\n"
 upgrade_refusal (upgrade.Directories place) = codes "no 44 directories record " ++ decimal place ++ codes "\n"
 upgrade_refusal (upgrade.TooLarge offset) = refusal_text (TooLarge offset)
+upgrade_refusal (upgrade.FileZero unit row) = file_zero_text unit row ++ codes "\n"
 upgrade_refusal upgrade.Memory = []
 
--- How the work on a section ends, whose file of directories has these bytes (text), if there is one: the section of version 5 that says
--- what its units say was printed, or the line that says why there is none.
+-- How the work on a section ends, whose file of directories has these bytes (text), if there is one: no row of an older unit names file 0,
+-- and the section of version 5 that says what its units say was printed; or the line that says why there is none.
 abbrev pub IsUpgradePrinted : Order → ℕ → List ℕ → Option (List ℕ) → Option (List ℕ) → Option (List ℕ) → Status → Type 0
 IsUpgradePrinted order address_size section text old new Done =
-    (directories : List Directory) × AreListed order section text directories
+    (directories : List Directory) × AreListed order section text directories × AllNameFiles order address_size section
     × IsPrintedIn (IsUpgraded order address_size directories section) old new
 IsUpgradePrinted order address_size section text old new No =
     (fault : UpgradeFault) × (fault ≢ upgrade.Memory) × IsUpgradeFault order address_size section text fault

@@ -18,11 +18,12 @@ use lnt_older::{Directory, UpgradeFault, judge_upgrade, upgrade_next};
 use lnt_unit::ConvertFault;
 use lnt_wire::{Cursor, Order};
 use std::alloc::Global;
+use std::fmt;
 use std::io::Write;
 
 /// Prints the section `bytes`, whose byte order is `order`, with its units of versions 2 to 4 written anew in version 5; or the line
-/// that says why there is no such section: `no 25 ..`, `no 44 ..` or `no 20 ..`. Addresses of older units have `address_size` bytes, 2,
-/// 4 or 8; `directories` are the bytes of the file of their compilation directories, if there is one.
+/// that says why there is no such section: `no 25 ..`, `no 44 ..`, `no 20 ..` or `no 30 ..`. Addresses of older units have
+/// `address_size` bytes, 2, 4 or 8; `directories` are the bytes of the file of their compilation directories, if there is one.
 ///
 /// If it returns `Done`, the section of version 5 has been written, and nothing else. If it returns `No`, only the line that says why
 /// there is none. Stops with `Write` if the writer failed, and with `Memory`. If it stops, a prefix of that section or line has been
@@ -91,15 +92,58 @@ fn print_reason<W: Write>(alloc: Global, fault: UpgradeFault, out: &mut W) -> Re
 {
     match fault {
         UpgradeFault::Malformed(fault) => print_fault(alloc, fault, out),
-        UpgradeFault::Directories(place) => {
-            print_line(
-                alloc,
-                &format_args!("no 44 directories record {place}"),
-                out,
-            )?;
-            Ok(Status::No)
-        }
+        UpgradeFault::Directories(place) => print_record(alloc, place, out),
+        UpgradeFault::FileZero(unit, row) => print_file_zero(alloc, FileZeroLine(unit, row), out),
         UpgradeFault::TooLarge(offset) => print_refusal(alloc, ConvertFault::TooLarge(offset), out),
         UpgradeFault::Memory => Err(IoStop::Memory),
     }
+}
+
+// Prints the line that names the first record that isn't so, or a prefix of it.
+fn print_record<W: Write>(alloc: Global, place: u64, out: &mut W) -> Result<Status, IoStop>
+    ensures no { IfOk result (λ status. status ≡ No) }
+    ensures err { IfErr result IsPrinting }
+    ensures line { OnOk result (Appends (W.contents out.old) (W.contents out.new) (upgrade_refusal (UpgradeFault.Directories place))) }
+    ensures prefix { OnErr result (AppendsPrefix (W.contents out.old) (W.contents out.new)
+        (upgrade_refusal (UpgradeFault.Directories place))) }
+{
+    print_line(
+        alloc,
+        &format_args!("no 44 directories record {place}"),
+        out,
+    )?;
+    Ok(Status::No)
+}
+
+// The line that names the first row of file 0, by the offset of its unit and by its index there.
+#[derive(Clone, Copy)]
+struct FileZeroLine(u64, u64);
+
+impl fmt::Display for FileZeroLine {
+    ghost use Rattle.std.specs.Prelude.{Some};
+    ghost use Rattle.lnt_dump.specs.Printed.{file_zero_text};
+
+    ghost output = { λ line. Some (file_zero_text line.0 line.1) };
+
+    fn fmt<W: fmt::Write>(&self, f: &mut fmt::Formatter<W>) -> fmt::Result {
+        let FileZeroLine(unit, row) = *self;
+        write!(f, "no 30 file number unit 0x{unit:x} row {row} file 0")
+    }
+}
+
+// Prints that line, or a prefix of it.
+fn print_file_zero<W: Write>(
+    alloc: Global,
+    line: FileZeroLine,
+    out: &mut W,
+) -> Result<Status, IoStop>
+    ensures no { IfOk result (λ status. status ≡ No) }
+    ensures err { IfErr result IsPrinting }
+    ensures line { OnOk result (Appends (W.contents out.old) (W.contents out.new)
+        (upgrade_refusal (UpgradeFault.FileZero line.0 line.1))) }
+    ensures prefix { OnErr result (AppendsPrefix (W.contents out.old) (W.contents out.new)
+        (upgrade_refusal (UpgradeFault.FileZero line.0 line.1))) }
+{
+    print_line(alloc, &line, out)?;
+    Ok(Status::No)
 }

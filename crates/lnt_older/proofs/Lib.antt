@@ -1,6 +1,8 @@
 pub mod DirectoryLemmas
 pub mod Prefixes
 pub mod FieldLemmas
+pub mod FileZeroLemmas
+pub mod ZeroRowLemmas
 pub mod FirstFieldLaws
 pub mod PrefixLemmas
 pub mod HeaderLemmas
@@ -10,6 +12,7 @@ pub mod NoUnitLemmas
 pub mod OneFaultLaws
 pub mod OneListingLaws
 pub mod PlacedLaws
+pub mod SameRowsLaws
 pub mod SameUnitLemmas
 pub mod SectionLemmas
 pub mod SizeLemmas

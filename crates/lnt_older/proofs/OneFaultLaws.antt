@@ -29,19 +29,22 @@ use Rattle.lnt_unit.proofs.OneFaultLemmas.{same_fault}
 use Rattle.lnt_older.specs.OlderBytes.{version_number, OlderVersion}
 use Rattle.lnt_older.specs.Directories.{directory_at, Directory, IsBadRecord}
 use Rattle.lnt_older.specs.Laws.{OneUpgradeFault}
-use Rattle.lnt_older.specs.OlderUnits.{AnyParts, five_parts, IsAnyFault, older_parts}
+use Rattle.lnt_older.specs.OlderUnits.{AnyBytes, AnyParts, five_parts, IsAnyFault, older_parts}
 use Rattle.lnt_older.specs.OlderUnits.IsAnyFault.{frame, header_length, of_fields}
-use Rattle.lnt_older.specs.Sections.{AnySection, AreListed, CanBeUpgraded, HasOlder, HasUnits, IsBroken, IsLargeAt, IsUpgradeFault}
+use Rattle.lnt_older.specs.Sections.{AnySection, AreListed, CanBeUpgraded, CanUpgrade}
+use Rattle.lnt_older.specs.Sections.{HasOlder, HasUnits, IsBroken, IsLargeAt, IsUpgradeFault}
 use Rattle.lnt_older.specs.Sections.{older_offsets}
 use Rattle.lnt_older.specs.UnitReading.{IsPastFault}
 use Rattle.lnt_older.specs.UnitReading.IsPastFault.{of_length, of_field}
 use Rattle.lnt_older.specs.declared.section.UpgradeFault.{UpgradeFault}
-use Rattle.lnt_older.specs.declared.section.UpgradeFault.TheVariants.{Malformed, Directories, TooLarge, Memory}
+use Rattle.lnt_older.specs.declared.section.UpgradeFault.TheVariants.{Malformed, Directories, TooLarge, FileZero, Memory}
+use Rattle.lnt_older.specs.FileZero.{IsZeroRowAt, NamesFiles}
 use Rattle.lnt_older.proofs.FirstFieldLaws.{fields_fault}
 use Rattle.lnt_older.proofs.NoUnitLemmas.{IsNoOlder, other_version, same_version, small_version}
 use Rattle.lnt_older.proofs.OneListingLaws.{bad_one, listed_none, listed_one}
 use Rattle.lnt_older.proofs.PlacedLaws.{placed_at, placed_once}
 use Rattle.lnt_older.proofs.SectionLemmas.{IsSpelled}
+use Rattle.lnt_older.proofs.SizeLemmas.{newer_of}
 use Rattle.lnt_older.proofs.UpgradeLaws.{any_once, five_not_older, some_bytes}
 
 -- ---- header_length, as in a unit of version 5, after an address size and a segment selector size
@@ -234,6 +237,11 @@ any_one order reason other before before' from from' h k e =
 
 -- ---- a section
 
+-- a section of which each unit can be written anew is spelled by units
+can_units : (order : Order) (size : ℕ) (directories : List Directory) (section : List ℕ) → CanUpgrade order size directories section
+    → HasUnits order section
+can_units order size directories section (units, placed) = (units, (newer_of order size directories 0 units section placed).sound)
+
 module _ (order : Order) (section : List ℕ) where
   none_after : (fault : Fault) → (f : IsBroken order section fault) → NoneSpelled (IsSpelled order) f.rest
   none_after fault f unit x more p e = f.refused.none unit.1 x more p e
@@ -274,6 +282,8 @@ module _ (order : Order) (section : List ℕ) where
   broken_alone address_size None one (Directories place) f some g = absurd g
   broken_alone address_size (Some text) one (Directories place) f some g = absurd (broken_none one f (g.1.units, g.1.sound))
   broken_alone address_size text one (TooLarge offset) f some g = absurd (broken_none one f g.1)
+  broken_alone address_size text one (FileZero offset index) f some (directories, listed, can, zero) =
+      absurd (broken_none one f (can_units order address_size directories section can))
   broken_alone address_size text one Memory f some g = absurd (some refl)
 
 -- ---- the directories of a section
@@ -336,6 +346,60 @@ module _ (order : Order) where
   large_one size section directories others m n same f g = same_least m n (large_before size section directories others m n same f g)
       (large_before size section others directories n m (λ offset. sym (same offset)) g f)
 
+  -- none is too large where each can be written anew
+  large_none : (size : ℕ) (section : List ℕ) (directories others : List Directory) (m : ℕ)
+      → ((offset : ℕ) → directory_at directories offset ≡ directory_at others offset)
+      → IsLargeAt order size directories section m → CanUpgrade order size others section → ⊥
+  large_none size section directories others m same f (units, can) =
+      let older = f.large.older in
+      let parts = older_parts f.large.header f.large.program in
+      let some = some_bytes order parts f.unit (older.order_is, older.spelled) in
+      let found = placed_at (CanBeUpgraded order size directories) (CanBeUpgraded order size others)
+      (λ u v x y r s p q e. any_once order u.1 v.1 x y r s p.spelled q.spelled e) 0 0 f.before.0 units f.prefix section f.unit f.rest []
+      f.before.1 can
+      (λ v z r q e. any_once order v.1 parts z f.unit r f.rest q.spelled (older.order_is, older.spelled) e)
+      (sym f.joined ∙ sym (append-nil section))
+      (omega (arith, some, ap length f.joined, length-append f.prefix (f.unit ++ f.rest), length-append f.unit f.rest)) in
+      let place : found.0.0 ≡ m = omega (arith, found.1, f.place) in
+      f.misfit (rw (same m, ← place) found.2.fits)
+
+  -- ---- the first row that names file 0
+
+  zero_before : (size : ℕ) (section : List ℕ) (m n i j : ℕ) → IsZeroRowAt order size section m i → IsZeroRowAt order size section n j
+      → m < n → ⊥
+  zero_before size section m n i j f g lt =
+      let zero = f.names.zero in
+      let parts = older_parts zero.header zero.program in
+      let spelled : AnyBytes order parts f.unit = (zero.older.order_is, zero.older.spelled) in
+      let found = placed_at (NamesFiles order size) (NamesFiles order size)
+      (λ u v x y r s p q e. any_once order u.1 v.1 x y r s p.spelled q.spelled e) 0 0 f.before.0 g.before.0 f.prefix g.prefix f.unit f.rest
+      (g.unit ++ g.rest) f.before.1 g.before.1
+      (λ v z r q e. any_once order v.1 parts z f.unit r f.rest q.spelled spelled e) (sym f.joined ∙ g.joined)
+      (omega (arith, lt, f.place, g.place)) in
+      found.2.none i zero
+
+  -- at one offset it is one unit
+  zero_unit : (size : ℕ) (section : List ℕ) (m i j : ℕ) → (f : IsZeroRowAt order size section m i)
+      → (g : IsZeroRowAt order size section m j) → f.unit ≡ g.unit
+  zero_unit size section m i j f g =
+      let zero = f.names.zero in
+      let also = g.names.zero in
+      let prefixes : f.prefix ≡ g.prefix = same_prefix f.prefix g.prefix (f.unit ++ f.rest) (g.unit ++ g.rest)
+      (sym f.place ∙ g.place) (sym f.joined ∙ g.joined) in
+      let rests = same_rest f.prefix g.prefix (f.unit ++ f.rest) (g.unit ++ g.rest) prefixes (sym f.joined ∙ g.joined) in
+      any_once order (older_parts zero.header zero.program) (older_parts also.header also.program) f.unit g.unit f.rest g.rest
+      (zero.older.order_is, zero.older.spelled) (also.older.order_is, also.older.spelled) rests
+
+  zero_one : (size : ℕ) (section : List ℕ) (m n i j : ℕ) → IsZeroRowAt order size section m i → IsZeroRowAt order size section n j
+      → (m ≡ n) × (i ≡ j)
+  zero_one size section m n i j f g =
+      let offsets : m ≡ n = same_least m n (zero_before size section m n i j f g) (zero_before size section n m j i g f) in
+      let h : IsZeroRowAt order size section m j = rw offsets g in
+      let unit = zero_unit size section m i j f h in (
+        offsets,
+        same_least i j (λ lt. h.names.first i lt (rw (← unit) f.names.zero)) (λ lt. f.names.first j lt (rw unit h.names.zero)),
+      )
+
 -- ---- one fault
 
 -- where a record isn't so, no directories are listed
@@ -357,6 +421,24 @@ one_fault order size section (Some text) (Directories i) (TooLarge offset) some 
 one_fault order size section (Some text) (TooLarge offset) (Directories i) some some' (directories, units, listed, large)
     (older, has, bad) =
     absurd (no_directories order section text older i directories has bad listed)
+one_fault order size section (Some text) (Directories i) (FileZero offset index) some some' (older, has, bad)
+    (directories, listed, can, zero) =
+    absurd (no_directories order section text older i directories has bad listed)
+one_fault order size section (Some text) (FileZero offset index) (Directories i) some some' (directories, listed, can, zero)
+    (older, has, bad) =
+    absurd (no_directories order section text older i directories has bad listed)
+one_fault order size section text (TooLarge m) (FileZero offset index) some some' (directories, units, listed, large)
+    (others, listed', can, zero) =
+    absurd (large_none order size section directories others m (same_directories order section text directories others listed listed')
+    large can)
+one_fault order size section text (FileZero offset index) (TooLarge n) some some' (others, listed', can, zero)
+    (directories, units, listed, large) =
+    absurd (large_none order size section directories others n (same_directories order section text directories others listed listed')
+    large can)
+one_fault order size section text (FileZero m i) (FileZero n j) some some' (directories, listed, can, zero)
+    (others, listed', can', zero') =
+    let found = zero_one order size section m n i j zero zero' in
+    cc (found.0, found.1)
 one_fault order size section text (TooLarge m) (TooLarge n) some some' (directories, units, listed, large)
     (others, units', listed', large') =
     ap TooLarge (large_one order size section directories others m n

@@ -27,7 +27,7 @@ use Rattle.std.proofs.lemmas.Grind.{common_steps}
 -- ---- bodies
 
 -- Two bodies say the same.
-record SameBody (v w : OlderVersion) (fields other program past : List ℕ) : Type 0 where
+pub record SameBody (v w : OlderVersion) (fields other program past : List ℕ) : Type 0 where
   pub version : v ≡ w
   pub fields_are : fields ≡ other
   pub program_is : program ≡ past
@@ -43,7 +43,7 @@ one_version : (format : Format) (order : Order) (v w : OlderVersion) (fields oth
 one_version format order v w fields other program past e =
     grind (arith, common_steps, same_number_prefix, width_2, small_version, append_assoc, same_version)
 
-same_body : (format : Format) (order : Order) (v w : OlderVersion) (fields other program past : List ℕ)
+pub same_body : (format : Format) (order : Order) (v w : OlderVersion) (fields other program past : List ℕ)
     → LengthFits format (length (body_bytes format order v fields program))
     → LengthFits format (length (body_bytes format order w other past))
     → body_bytes format order v fields program ≡ body_bytes format order w other past → SameBody v w fields other program past

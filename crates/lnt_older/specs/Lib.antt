@@ -1,4 +1,5 @@
 pub mod Directories
+pub mod FileZero
 pub mod Laws
 pub mod Lists
 pub mod OlderBytes

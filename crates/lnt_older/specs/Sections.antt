@@ -14,7 +14,8 @@ use Rattle.lnt_older.specs.OlderUnits.{AnyBytes, AnyParts, IsAnyFault, five_part
 use Rattle.lnt_older.specs.Upgraded.{IsTooLong, upgraded}
 use Rattle.lnt_older.specs.Directories.{directory_at, Directory, IsBadRecord, IsDirectoryFile}
 use Rattle.lnt_older.specs.declared.section.UpgradeFault.{UpgradeFault}
-use Rattle.lnt_older.specs.declared.section.UpgradeFault.TheVariants.{Malformed, Directories, TooLarge, Memory}
+use Rattle.lnt_older.specs.declared.section.UpgradeFault.TheVariants.{Malformed, Directories, TooLarge, FileZero, Memory}
+use Rattle.lnt_older.specs.FileZero.{IsZeroRowAt}
 
 -- ---- what a section says
 
@@ -131,4 +132,7 @@ IsUpgradeFault order address_size section (Some text) (Directories place) =
 IsUpgradeFault order address_size section text (TooLarge offset) =
     (directories : List Directory) × HasUnits order section × AreListed order section text directories
     × IsLargeAt order address_size directories section offset
+IsUpgradeFault order address_size section text (FileZero offset index) =
+    (directories : List Directory) × AreListed order section text directories × CanUpgrade order address_size directories section
+    × IsZeroRowAt order address_size section offset index
 IsUpgradeFault order address_size section text Memory = Unit {0}

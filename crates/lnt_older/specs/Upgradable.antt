@@ -9,7 +9,8 @@ use Rattle.lnt_older.specs.Directories.{AreDirectories, directory_at, Directory}
 pub use Rattle.lnt_older.specs.Sections.{CanBeUpgraded, CanUpgrade, Fits}
 use Rattle.lnt_older.specs.Sections.{IsBroken, IsLargeAt, IsLargeUnit}
 use Rattle.lnt_older.specs.declared.section.UpgradeFault.{UpgradeFault}
-use Rattle.lnt_older.specs.declared.section.UpgradeFault.TheVariants.{Malformed, TooLarge, Memory}
+use Rattle.lnt_older.specs.declared.section.UpgradeFault.TheVariants.{FileZero, Malformed, TooLarge, Memory}
+use Rattle.lnt_older.specs.FileZero.{IsZeroRowAt}
 
 -- ---- directories
 
@@ -62,3 +63,8 @@ abbrev pub IsSizeFault : Order → ℕ → List Directory → List ℕ → Upgra
 IsSizeFault order address_size directories section (TooLarge offset) = IsLargeAt order address_size directories section offset
 IsSizeFault order address_size directories section Memory = Unit {0}
 IsSizeFault order address_size directories section other = ⊥
+
+abbrev pub IsRowFault : Order → ℕ → List ℕ → UpgradeFault → Type 0
+IsRowFault order address_size section (FileZero offset index) = IsZeroRowAt order address_size section offset index
+IsRowFault order address_size section Memory = Unit {0}
+IsRowFault order address_size section other = ⊥

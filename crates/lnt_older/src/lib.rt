@@ -10,6 +10,7 @@ pub mod laws;
 mod lists;
 mod numbers;
 mod prefix;
+mod rows;
 mod section;
 mod unit;
 mod upgrade;

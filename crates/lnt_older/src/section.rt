@@ -3,12 +3,14 @@ ghost use Rattle.std.specs.Prelude.{◌≡◌, ◌<◌, length, IfErr, IfOk, OnE
 ghost use Rattle.lnt_header.specs.Joins.{AreRising};
 ghost use Rattle.lnt_wire.specs.Bytes.{Extends};
 ghost use Rattle.lnt_header.specs.HeaderRules.{IsAddressSize};
+ghost use Rattle.lnt_older.specs.FileZero.{AllNameFiles};
 ghost use Rattle.lnt_older.specs.Directories.{AreListedFor, IsListingFault, directory_at};
 ghost use Rattle.lnt_older.specs.Sections.{HasOlder, AreListed, HasUnits, IsUpgradeFault};
 ghost use Rattle.lnt_older.specs.Upgradable.{IsLargeNext, IsSizeFault, IsUnitFault, IsUnitNext, AddsAny, AreSoundDirectories, CanBeLeft};
 ghost use Rattle.lnt_older.specs.Upgradable.{CanUpgrade};
 
 use crate::directories::{Directory, directory_of, read_directories};
+use crate::rows::judge_rows;
 use crate::{AnyUnit, append_upgraded_unit, take_any_unit};
 use lnt_wire::{Cursor, EncodeFault, Fault, Order};
 use std::alloc::{AllocError, Global};
@@ -22,6 +24,9 @@ pub enum UpgradeFault {
     Directories(u64),
     /// 20: the unit of version 5 for the unit at this offset of the section is longer than its format can say.
     TooLarge(u64),
+    /// 30: in the older unit at this offset of the section, which lists files, the row with this index is the first that names file 0,
+    /// which isn't listed. Rows count from 0 over all rows of the unit. End rows name no file.
+    FileZero(u64, u64),
     /// 21: memory ran out. It says nothing of the section.
     Memory,
 }
@@ -40,9 +45,10 @@ impl From<AllocError> for UpgradeFault {
 /// that `text` lists for its older units; none where there is no text. Addresses of older units have `address_size` bytes, 2, 4 or 8. It
 /// takes the memory of the directories, of the largest new unit, and of 8 bytes for each older unit.
 ///
-/// It refuses with `Malformed` where no units of versions 2 to 5 spell the section: programs aren't judged, and of a unit of version 5
-/// only its initial length and its version. Then with `Directories` and the first record of the text that isn't so. Then with `TooLarge`
-/// and the offset of the first unit that has no encoding in its format. Else only with `Memory`.
+/// It refuses with `Malformed` where no units of versions 2 to 5 spell the section: of a unit of version 5 only its initial length and its
+/// version are judged, and programs aren't. Then with `Directories` and the first record of the text that isn't so. Then with `TooLarge`
+/// and the offset of the first unit that has no encoding in its format. Then with `FileZero` and the first row that names file 0 in an
+/// older unit that lists files. Else only with `Memory`.
 pub fn judge_upgrade(
     alloc: Global,
     bytes: &[u8],
@@ -53,12 +59,14 @@ pub fn judge_upgrade(
     requires { IsAddressSize address_size }
     ensures sound { IfOk result (λ directories. AreSoundDirectories directories.items) }
     ensures can { IfOk result (λ directories. CanUpgrade order address_size directories.items bytes.now) }
+    ensures files { OnOk result (AllNameFiles order address_size bytes.now) }
     ensures listed { IfOk result (λ directories. AreListed order bytes.now (option_copied text.entry) directories.items) }
     ensures err { IfErr result (IsUpgradeFault order address_size bytes.now (option_copied text.entry)) }
 {
     let older = older_units(alloc, bytes, order)?;
     let directories = list_directories(alloc, text, &older)?;
     judge_sizes(alloc, bytes, order, address_size, &directories)?;
+    judge_rows(alloc, bytes, order, address_size)?;
     Ok(directories)
 }
 

@@ -29,9 +29,9 @@ argument_text argument.AtLeast = codes "P of --at-least is 1 to 3 decimal digits
 
 -- what a file looks like, and what to do
 abbrev pub look_text : Look → List ℕ
-look_text Elf = codes "this looks like an ELF file; linetab-object takes its sections out, and does the word"
-look_text Pe = codes "this looks like a PE file; linetab-object takes its sections out, and does the word"
-look_text MachO = codes "this looks like a Mach-O file; linetab-object takes its sections out, and does the word"
+look_text Elf = codes "this looks like an ELF file; use linetab-object, which extracts the sections itself"
+look_text Pe = codes "this looks like a PE file; use linetab-object, which extracts the sections itself"
+look_text MachO = codes "this looks like a Mach-O file; use linetab-object, which extracts the sections itself"
 look_text Gzip = codes "this looks like a file that gzip compressed; decompress it first"
 look_text Zstd = codes "this looks like a file that zstd compressed; decompress it first"
 look_text CompressedSection =
@@ -85,7 +85,7 @@ rule_text Order = codes "each span ends above its low, which isn't below the hig
 
 -- the headers of the versions of a table that contain units and file numbers
 abbrev pub numbered_headers : List ℕ
-numbered_headers = codes "low,low_op,high,high_op,unit,file,line,column,is_stmt or with this and ,isa,discriminator"
+numbered_headers = codes "low,low_op,high,high_op,unit,file,line,column,is_stmt[,isa,discriminator]"
 
 -- a note
 abbrev pub note_text : Note → List ℕ
@@ -107,7 +107,7 @@ note_text Copies =
 note_text HoldsNothing = codes "no sequence holds a position, so the section's table is empty; a relocatable object has to be linked first"
 note_text NoSums = codes "the section lists no MD5 sum, so nothing was compared"
 note_text TableHeader =
-    codes "the table has to begin with " ++ (numbered_headers ++ codes ", or with low,high,path,line or with this and ,column")
+    codes "the first line has to be " ++ (numbered_headers ++ codes ", or low,high,path,line[,column]")
 note_text (TableRecord line rule) = line_text line ++ rule_text rule
 
 -- the line of a note, on standard error

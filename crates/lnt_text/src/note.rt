@@ -164,7 +164,7 @@ impl fmt::Display for Note {
             Note::NoSums => f.write_str("the section lists no MD5 sum, so nothing was compared"),
             Note::TableHeader => write!(
                 f,
-                "the table has to begin with {}, or with low,high,path,line or with this and ,column",
+                "the first line has to be {}, or low,high,path,line[,column]",
                 NUMBERED_HEADERS
             ),
             Note::TableRecord(line, rule) => write!(f, "{}{rule}", LineText(line)),
@@ -193,7 +193,7 @@ impl fmt::Display for RecordRule {
 
 // The headers of the versions that contain units and file numbers.
 const NUMBERED_HEADERS: &str =
-    "low,low_op,high,high_op,unit,file,line,column,is_stmt or with this and ,isa,discriminator";
+    "low,low_op,high,high_op,unit,file,line,column,is_stmt[,isa,discriminator]";
 
 // The words that an argument takes.
 fn rule_of_argument(argument: Argument) -> &'static str
@@ -217,13 +217,13 @@ fn advice_to_look(look: Look) -> &'static str
 {
     match look {
         Look::Elf => {
-            "this looks like an ELF file; linetab-object takes its sections out, and does the word"
+            "this looks like an ELF file; use linetab-object, which extracts the sections itself"
         }
         Look::Pe => {
-            "this looks like a PE file; linetab-object takes its sections out, and does the word"
+            "this looks like a PE file; use linetab-object, which extracts the sections itself"
         }
         Look::MachO => {
-            "this looks like a Mach-O file; linetab-object takes its sections out, and does the word"
+            "this looks like a Mach-O file; use linetab-object, which extracts the sections itself"
         }
         Look::Gzip => "this looks like a file that gzip compressed; decompress it first",
         Look::Zstd => "this looks like a file that zstd compressed; decompress it first",

@@ -5,9 +5,9 @@ ghost use Rattle.lnt_text.specs.Digits.{IsDecimalDigit, IsDigit, IsHexadecimalDi
 // The base in which a number is written.
 #[derive(Clone, Copy)]
 pub(crate) enum Radix {
-    // Decimal ones.
+    // Base 10, for decimal numbers.
     Ten,
-    // Hexadecimal ones.
+    // Base 16, for hexadecimal numbers.
     Sixteen,
 }
 

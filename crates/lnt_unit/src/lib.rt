@@ -6,6 +6,14 @@
 //!
 //! Start with [`decode_section`] for a section in memory, with [`SectionReader::new`] and [`UnitView::over`] for a section
 //! from a source, or with [`Unit::new`] to build a unit, which [`encode_unit`] writes.
+//!
+//! The first unit of a section that a reader gives:
+//!
+//! ```
+//! let mut source = Counted::new(reader, 70);
+//! let mut section = SectionReader::new(&mut source, order);
+//! section.next_unit(alloc)
+//! ```
 #![tactic(auto)]
 
 mod buffer;

@@ -4,6 +4,13 @@
 //!
 //! Start with [`Cursor::new`] over some bytes; with [`frames`], which divides a section into its units by their initial
 //! lengths alone; or with [`Counted::new`] for bytes from a reader.
+//!
+//! The frames of a section, and the fault after the last one if there is one:
+//!
+//! ```
+//! let Framed { frames, fault } = frames(alloc, bytes, order)?;
+//! Ok((frames, fault))
+//! ```
 #![tactic(auto)]
 
 mod cursor;

@@ -287,7 +287,7 @@ fn add_text(out: &mut Vec<u8>, text: &[u8]) -> Result<(), AllocError>
     out.extend_from_slice(&[0])
 }
 
-// Adds the length of a block, encoded as `prefix` says, and its bytes. After an error a part of it may have been added.
+// Adds the length of a block, encoded as `encoding` says, and its bytes. After an error a part of it may have been added.
 fn add_block(
     out: &mut Vec<u8>,
     block: &[u8],
@@ -303,7 +303,7 @@ fn add_block(
     out.extend_from_slice(block)
 }
 
-// Adds the length of a block, encoded as `prefix` says. A failed call leaves `out` unchanged.
+// Adds the length of a block, encoded as `encoding` says. A failed call leaves `out` unchanged.
 fn add_length(
     out: &mut Vec<u8>,
     length: usize,

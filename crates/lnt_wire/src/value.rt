@@ -96,7 +96,7 @@ impl<'a> Cursor<'a> {
         Ok(text)
     }
 
-    // The next block as a value, in the form whose lengths are encoded as `prefix` says. Such a form is the same in both
+    // The next block as a value, in the form whose lengths are encoded as `encoding` says. Such a form is the same in both
     // formats. Fails as `block` does.
     #[inline(always)]
     fn block_value(&mut self, encoding: BlockLength) -> Result<ValueView<'a>, Fault>
@@ -115,7 +115,7 @@ impl<'a> Cursor<'a> {
         }
     }
 
-    // The bytes of the next block, whose length is encoded as `prefix` says. Fails with `Truncated` if the length is truncated
+    // The bytes of the next block, whose length is encoded as `encoding` says. Fails with `Truncated` if the length is truncated
     // or counts more bytes than follow it, and with `LebTooLarge`. The place of each is the length's first byte.
     #[inline(never)]
     fn block(&mut self, encoding: BlockLength) -> Result<&'a [u8], Fault>
@@ -140,7 +140,7 @@ impl<'a> Cursor<'a> {
         Ok(block)
     }
 
-    // The next length of a block, encoded as `prefix` says.
+    // The next length of a block, encoded as `encoding` says.
     fn length(&mut self, encoding: BlockLength) -> Result<u64, Fault>
         ensures ok { IfOk result (λ v. Reads (LengthBytes self.old.order encoding) v self.old self.new) }
         ensures err { IfErr result (λ fault.

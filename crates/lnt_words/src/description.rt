@@ -99,39 +99,39 @@ pub(crate) const SUBCOMMANDS: [Subcommand; 11] = [
         "rows" => Flag, "Prints the rows of each unit too";
     },
     subcommand! {
-        "check" => "Tells whether an address table answers as a section does, or where it doesn't", Some(NUMBERS), JUDGING;
+        "check" => "Prints yes if an address table answers as a section does, or else the first thing that is wrong", Some(NUMBERS), JUDGING;
         "TABLE" => Word, "The file with the address table, or - for standard input";
-        "all" => Flag, "Tells every place where the two answer differently, and not the first alone";
-        "ends" => FlagWith("all"), "Tells the first position after each of these places too";
-        "partial" => Flag, "Compares only where the table answers, and tells how many of the section's addresses that is";
-        "at-least" => ValuedWith("P", "partial"), "Answers no where these are fewer than P of a hundred, from 0 to 100";
+        "all" => Flag, "Prints every place where the two differ, not only the first";
+        "ends" => FlagWith("all"), "Prints the first position after each of these places too";
+        "partial" => Flag, "Compares only where the table answers, and prints at how many of the section's addresses it does";
+        "at-least" => ValuedWith("P", "partial"), "Prints no if these are fewer than P percent; P is 0 to 100";
     },
     subcommand! {
-        "verify" => "Tells whether a section is good, or what is wrong with it", None, JUDGING;
+        "verify" => "Prints yes if a section is good, or else the first thing that is wrong with it", None, JUDGING;
     },
     subcommand! {
-        "lookup" => "Prints what a section says of addresses, in a line for each", None, JUDGING;
+        "lookup" => "Prints a line for each address: what a section answers there", None, JUDGING;
         "ADDRESS" => WordsUnless("addresses"), "An address: 0x and 1 to 16 hexadecimal digits";
         "addresses" => Valued("FILE"), "A file with a line ADDRESS or ADDRESS,N for each lookup, or - for standard input";
-        "op" => Valued("N"), "The operation of the instruction there, from 0 on; it is 0 by default";
+        "op" => Valued("N"), "The operation within the instruction, counted from 0; 0 by default";
     },
     subcommand! {
         "files" => "Prints the path and the MD5 sum of each file of a section, as comma-separated values", None, JUDGING;
     },
     subcommand! {
         "table" => "Prints the address table of a section", Some(WHOLE), JUDGING;
-        "wide" => FlagWithoutBoth("paths", "lines"), "Tells the instruction set and the discriminator too";
-        "paths" => FlagWithout("lines"), "Tells the path of the file, the line and the column, and nothing else";
-        "lines" => Flag, "Tells the path of the file and the line, and nothing else";
+        "wide" => FlagWithoutBoth("paths", "lines"), "Adds the instruction set and the discriminator";
+        "paths" => FlagWithout("lines"), "Writes only the path of the file, the line and the column";
+        "lines" => Flag, "Writes only the path of the file and the line";
     },
     subcommand! {
         "convert" => "Prints a section in another format and byte order", None, READING;
-        "format" => Required("32|64"), "The format that is written";
-        "order" => Required("little|big"), "The byte order that is written";
+        "format" => Required("32|64"), "The format to write";
+        "order" => Required("little|big"), "The byte order to write";
     },
     subcommand! {
         "upgrade" => "Prints a section with its units of versions 2 to 4 written anew in version 5", Some(OLDER), READING;
-        "address-size" => Required("2|4|8"), "How many bytes an address has in units of versions 2 to 4, which don't say it";
+        "address-size" => Required("2|4|8"), "How many bytes an address has in units of versions 2 to 4, which don't say so themselves";
         "directories" => Valued("FILE"), "A file with the compilation directories of these units, or - for standard input";
     },
     Subcommand {
@@ -140,7 +140,7 @@ pub(crate) const SUBCOMMANDS: [Subcommand; 11] = [
         after: Some(BASE),
         own: arguments! {
             "FILE" => Word, "The symbol file, or - for standard input";
-            "base" => Valued("ADDRESS"), "Where the first byte of the program lies that the file's addresses count from; 0x0 by default";
+            "base" => Valued("ADDRESS"), "The address of the program's first byte, from which the file's addresses count; 0x0 by default";
         },
         shared: arguments! {
             "quiet" => Flag, QUIET;
@@ -161,45 +161,45 @@ const READING: &[ArgumentRule] = reading! {};
 const JUDGING: &[ArgumentRule] = reading! {
     "line-str" => Valued("FILE"), "The file with the bytes of .debug_line_str";
     "str" => Valued("FILE"), "The file with the bytes of .debug_str";
-    "dead" => Valued("ADDRESS"), "Where sequences of discarded code begin: they answer nothing";
-    "skip-copies" => Flag, "Leaves out sequences that begin and end at the same positions as one before them";
+    "dead" => Valued("ADDRESS"), "The address at which sequences of discarded code begin; they are left out";
+    "skip-copies" => Flag, "Takes no answer from sequences that begin and end at the same positions as an earlier one";
 };
 
 // What the numbers in the lines `no ..` of `check` mean.
 const NUMBERS: &str = "Lines that begin with no, and the document that says more:
-  25  no unit stands where one has to, for the fault that is named (docs/SPECIFICATION.md)
+  25  the bytes are not a valid unit; the reason follows (docs/SPECIFICATION.md)
   26  the program of a unit doesn't run (docs/SPECIFICATION.md)
   27  a table of directories or files has no path, or one in a form that it may not have (docs/LINES.md)
   28  the path of a directory or file has no text; --line-str and --str name the sections of strings (docs/LINES.md)
-  29  the directory of a file isn't there (docs/LINES.md)
+  29  a file names a directory that isn't there (docs/LINES.md)
   30  a row names a file that isn't there (docs/LINES.md)
   31  a row's position is below that of the row before it, in one sequence (docs/LINES.md)
-  32  two sequences hold one position; --dead and --skip-copies leave out what a linker left (docs/LINES.md)
+  32  two sequences overlap; --dead and --skip-copies ignore what a linker left behind (docs/LINES.md)
   36  the table doesn't begin with the names of its columns (docs/TABLES.md)
   37  a record of the table has too few or too many fields (docs/TABLES.md)
-  38  a field of the table is no number of its kind (docs/TABLES.md)
+  38  a field of the table isn't a number of the kind that its column has (docs/TABLES.md)
   39  a span of the table is empty, or begins below the end of the one before it (docs/TABLES.md)
-  40  the table and the section answer differently at this position, the least one (docs/TABLES.md)
-  46  the table is right wherever it answers, but at too few of the section's addresses for --at-least (docs/TABLES.md)";
+  40  the table and the section differ; this is the lowest position at which they do (docs/TABLES.md)
+  46  the table is right wherever it answers, but answers at fewer of the section's addresses than --at-least asks for (docs/TABLES.md)";
 
 // What the line `no 43` of `table` means.
-const WHOLE: &str = "With --paths or --lines a table says whole instructions alone. \
-Where its spans can't be written so, the line 'no 43 operation index at 0xA,OP' says the first place where one begins or ends \
-within an instruction, and the status is 1 (docs/TABLES.md).";
+const WHOLE: &str = "With --paths or --lines a table describes whole instructions only. \
+If a span begins or ends within one, the line 'no 43 operation index at 0xA,OP' names the first such place, and the status is 1 \
+(docs/TABLES.md).";
 
 // What the file of directories is, and the lines `no` of `upgrade`.
 const OLDER: &str =
     "The file of directories is comma-separated values: the line unit,directory, and then for some of these units, \
-in rising order, the offset in the section as a decimal number and the path. The line 'no 44 directories record R' says the first \
-record that isn't so, 'no 20 too large unit 0xU' the first unit that is longer than its format can say once it is written anew, and \
-the status is 1.";
+in rising order, the offset in the section as a decimal number and the path. The line 'no 44 directories record R' names the \
+first record that isn't valid, 'no 20 too large unit 0xU' the first unit that is too long for its format once it is written anew; \
+the status is then 1.";
 
 // What the table of a symbol file is, and the line `no` of `symbols`.
 const BASE: &str =
-    "The table has the path and the line at each address, as table --lines has those of a section, so that check \
-compares the two. The line 'no 45 symbols line L: REASON' says the first line that isn't one of a symbol file, and the status is 1 \
+    "The table has the path and the line at each address, as table --lines prints those of a section, so check can \
+compare the two. The line 'no 45 symbols line L: REASON' names the first line that isn't valid in a symbol file, and the status is 1 \
 (docs/TABLES.md).";
 
 // What the words `same`, `differs` and `unreadable` in the lines of `md5` mean.
 const SUMS: &str = "A file is the same, differs, or is unreadable: it can't be opened or read. \
-Where one isn't the same, the status is 1.";
+If one isn't the same, the status is 1.";
