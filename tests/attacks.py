@@ -159,6 +159,69 @@ def two_files(count):
     return {"line": one_sequence(long_directory(count) + TWO_FILES, b"\4\0\x20\4\1\x20" * (count // 2))}
 
 
+def rows_of(files):
+    """A row at the next address for each of these files."""
+    return b"".join(b"\4" + leb(file) + NEXT_ROW for file in files)
+
+
+def one_path(tables, files, path, strings=b""):
+    """Rows of files that have the same path, of many bytes, a table that says so, and one that says so of a longer path."""
+    count = len(files)
+    return {
+        "line": one_sequence(tables, rows_of(files)),
+        "table": one_span(count, path),
+        "other": one_span(count, path + b"x"),
+        "strings": strings,
+    }
+
+
+def files_of_a_directory(size):
+    """A row for each of the files of one name, in a directory of 256 times as many bytes."""
+    count = size // 256
+    files = bytes([2, 1, 8, 2, 0x0B]) + leb(count) + b"a\0\0" * count
+    return one_path(long_directory(size) + files, range(count), b"/" + b"s" * size + b"/a")
+
+
+def files_of_a_string(count):
+    """A row for each of many files whose name is one string of as many bytes."""
+    files = bytes([1, 1, 0x0E]) + leb(count) + b"\0" * 8 * count
+    return one_path(ONE_DIRECTORY + files, range(count), b"/s/" + b"a" * count, b"a" * count + b"\0")
+
+
+def directories_of_a_string(count):
+    """A row for each of many files, each in a directory of its own, whose name is one string of as many bytes."""
+    directories = bytes([1, 1, 0x0E]) + leb(count) + b"\0" * 8 * count
+    files = bytes([2, 1, 8, 2, 0x0F]) + leb(count) + b"".join(b"a\0" + leb(place) for place in range(count))
+    return one_path(directories + files, range(count), b"/" + b"s" * count + b"/a", b"/" + b"s" * count + b"\0")
+
+
+def strings_by_turns(count):
+    """A row for each of many files, whose names are by turns at five places, with the same string of many bytes."""
+    name = b"a" * (count // 5)
+    places = b"".join((place % 5 * (len(name) + 1)).to_bytes(8, "little") for place in range(count))
+    files = bytes([1, 1, 0x0E]) + leb(count) + places
+    return one_path(ONE_DIRECTORY + files, range(count), b"/s/" + name, (name + b"\0") * 5)
+
+
+def files_by_turns(count):
+    """Rows of nine files by turns, each with a copy of the same name of many bytes."""
+    name = b"a" * (count // 9)
+    files = bytes([1, 1, 8, 9]) + (name + b"\0") * 9
+    return one_path(ONE_DIRECTORY + files, [row % 9 for row in range(count // 2)], b"/s/" + name)
+
+
+def units_by_turns(count):
+    """Sequences of five units by turns, each with a copy of the same path of many bytes."""
+    tables, rows = long_directory(count) + TWO_FILES, count // 16
+    programs = (b"".join(sequence(0x1001 + 16 * row) for row in range(unit, rows, 5)) for unit in range(5))
+    path = b"/" + b"s" * count + b"/a"
+    return {
+        "line": b"".join(PLAIN.unit(tables, program) for program in programs),
+        "table": one_span(16 * rows, path),
+        "other": one_span(16 * rows, path + b"x"),
+    }
+
+
 def older(files):
     """A unit of version 4 with these files and no program."""
     header = bytes([1, 1, 1, 0xFB, 14, 1]) + b"\0" + files + b"\0"
@@ -198,6 +261,31 @@ def fields(count, before=b""):
     return {"line": sequences([0]), "table": before + b"," * count + b"\n"}
 
 
+def directory_fields(before):
+    """A file of directories with a record of many empty fields."""
+    return lambda count: {"line": older(b"a\0\0\0\0"), "directories": before + b"," * count + b"\n"}
+
+
+def long_older_name(count):
+    """A unit of version 4 with one file, whose name is long."""
+    return {"line": older(b"a" * count + b"\0\0\0\0")}
+
+
+def address_line(count):
+    """One long line of addresses, of bytes that are written as four."""
+    return {"line": long_sequence(10), "addresses": b"\xff" * count + b"\n"}
+
+
+def held_lines(count):
+    """Rows of one file, whose lines alternate, and the table of them by path, whose first line isn't written plainly."""
+    lines = (b"0x%x,0x%x,/a,%d\n" % (0x1001 + place, 0x1002 + place, 2 - place % 2) for place in range(count))
+    tables = bytes([1, 1, 8, 1]) + b"/\0" + TWO_FILES
+    return {
+        "line": one_sequence(tables, b"\3\1\x20\3\x7f\x20" * (count // 2)),
+        "table": b"low,high,path,line\n0x0" + b"".join(lines)[2:],
+    }
+
+
 # ---- files that the scripts read
 
 
@@ -216,15 +304,68 @@ def gsym_rows(count):
     return {"gsym": head + struct.pack("<IIIIII", 76, 2, 0, 0, 1, name) + info + strings}
 
 
-def breakpad_lines(count):
-    """Lines of a function, of a byte each, of a file with a long path."""
-    lines = b"".join(b"%x 1 %d 0\n" % (place, place % 7) for place in range(count))
-    return {"sym": b"MODULE Linux x86_64 0 a\nFILE 0 /%s\nFUNC 0 %x 0 f\n" % (b"s" * 4000, count) + lines}
+def symbols(*lines):
+    """A symbol file of Breakpad."""
+    return {"sym": b"MODULE Linux x86_64 0 a\n" + b"".join(lines)}
 
 
-def breakpad_functions(count):
-    functions = (b"FUNC %x 1 0 f\n%x 1 1 0\n" % (place, place) for place in range(count, 0, -1))
-    return {"sym": b"MODULE Linux x86_64 0 a\nFILE 0 /a\n" + b"".join(functions)}
+def symbol_lines(count):
+    """Line records of a byte each, of a file with a long path."""
+    lines = (b"%x 1 %d 0\n" % (place, place % 7) for place in range(count))
+    return symbols(b"FILE 0 /%s\nFUNC 0 %x 0 f\n" % (b"s" * 4000, count), *lines)
+
+
+def symbol_lines_of_two_files(count):
+    """The same of two such files in turns."""
+    lines = (b"%x 1 1 %d\n" % (place, place % 2) for place in range(count))
+    return symbols(b"FILE 0 /%s\nFILE 1 /%s\nFUNC 0 %x 0 f\n" % (b"s" * 4000, b"t" * 4000, count), *lines)
+
+
+def short_symbol_lines(count):
+    """The shortest line records that there are, of which one counts."""
+    return symbols(b"FUNC 0 1 0 f\n", b"0 1 1 0\n" * count)
+
+
+def reversed_symbol_lines(count):
+    return symbols(b"FUNC 0 %x 0 f\n" % count, *(b"%x 1 1 0\n" % place for place in range(count - 1, -1, -1)))
+
+
+def reversed_functions(count):
+    return symbols(b"FILE 0 /a\n", *(b"FUNC %x 1 0 f\n%x 1 1 0\n" % (place, place) for place in range(count, 0, -1)))
+
+
+def overlapping_functions(count):
+    """Functions of which each overlaps its neighbours, in falling order; every second counts."""
+    return symbols(*(b"FUNC %x 18 0 f\n%x 18 1 0\n" % (16 * place, 16 * place) for place in range(count, 0, -1)))
+
+
+def overlapping_one(count):
+    """Functions that all lie in the first one."""
+    return symbols(b"FUNC 0 %x 0 f\n" % (count + 1), *(b"FUNC %x 1 0 f\n%x 1 1 0\n" % (place, place) for place in range(count, 0, -1)))
+
+
+def symbol_files(count):
+    """Many FILE lines, in falling order of their numbers, and a line record of each."""
+    names = (b"FILE %d /%d\n" % (place, place) for place in range(count, 0, -1))
+    return symbols(*names, b"FUNC 0 %x 0 f\n" % count, *(b"%x 1 1 %d\n" % (place, place) for place in range(count)))
+
+
+def one_symbol_file(count):
+    """FILE lines of one number."""
+    return symbols(b"FILE 1 a\n" * count)
+
+
+def long_symbol_line(count):
+    return symbols(b"INFO " + b"a" * count + b"\n")
+
+
+def long_symbol_name(count):
+    return symbols(b"FILE 1 /" + b"a" * count + b"\nFUNC 0 2 0 f\n0 1 1 1\n1 1 2 1\n")
+
+
+def long_symbol_number(count):
+    """A number of many digits, which is no fault until its end is read."""
+    return symbols(b"FUNC " + b"0" * count + b"\n")
 
 
 def readelf_sequences(count):
@@ -382,6 +523,22 @@ EVERY = {
     "many rows": (section(rows), 2_000_000),
     "many units": (section(units), 20_000),
 }
+# Symbol files. Where their lines have some ten bytes, more is held for each byte, and more again where line records don't rise.
+SHORT, FALLING = Growth(memory=Memory(times(9))), Growth(memory=Memory(times(14)))
+SYMBOLS = {
+    "line records of a long path": (symbol_lines, 20_000, Memory()),
+    "line records of two long paths": (symbol_lines_of_two_files, 20_000, Memory()),
+    "short line records": (short_symbol_lines, 1_000_000, SHORT),
+    "line records in falling order": (reversed_symbol_lines, 400_000, FALLING),
+    "functions in falling order": (reversed_functions, 200_000, SHORT),
+    "functions that overlap": (overlapping_functions, 200_000, SHORT),
+    "functions in another": (overlapping_one, 200_000, SHORT),
+    "many files": (symbol_files, 200_000, SHORT),
+    "many files of one number": (one_symbol_file, 400_000, SHORT),
+    "a long line": (long_symbol_line, 8_000_000, Growth()),
+    "a long name": (long_symbol_name, 4_000_000, Growth()),
+    "a long number": (long_symbol_number, 8_000_000, Memory(status=1)),
+}
 STR = " --line-str STRINGS"
 WORDS = {
     **dict.fromkeys(("units LINE", "dump LINE --ops --rows", "convert LINE --format 32 --order big"), Memory()),
@@ -398,6 +555,23 @@ SQUARE = "one long directory of many files", "files LINE" + STR
 
 NUMBERS, PATHS = "low,low_op,high,high_op,unit,file,line,column,is_stmt", "low,high,path,line"
 IN_SCRIPT = functools.partial(Memory, own=SCRIPT_MEMORY)
+UPGRADE_BESIDE = "upgrade LINE --address-size 8 --directories DIRECTORIES"
+# Many files or units of one path, which takes most of the bytes: whether two of them have the same costs once for each copy.
+SAME_PATHS = [
+    ("files of a long directory", files_of_a_directory, 4_000_000, False),
+    ("files of a long name", files_of_a_string, 200_000, True),
+    ("files of directories with a long name", directories_of_a_string, 200_000, True),
+    ("files of five copies of a long name", strings_by_turns, 200_000, True),
+    ("nine files with long names by turns", files_by_turns, 1_000_000, False),
+    ("five units with a long path by turns", units_by_turns, 1_000_000, False),
+]
+SAME_PATH_WORDS = [
+    ("table LINE --lines", 0),
+    ("check LINE TABLE", 0),
+    ("check LINE TABLE --partial", 0),
+    ("check LINE TABLE --all", 0),
+    ("check LINE OTHER --all", 1),
+]
 # A name, the words, what makes the files, their size, and what bounds it.
 SHAPES = [
     *(Shape(name, words, *made, bound) for name, made in EVERY.items() for words, bound in WORDS.items() if (name, words) != SQUARE),
@@ -408,8 +582,13 @@ SHAPES = [
     Shape("columns of a file with a long path", "check LINE TABLE", columns_of_one_file, 400_000, Growth()),
     Shape("columns of a file with a long path", "check LINE TABLE --all", columns_of_one_file, 400_000, Growth()),
     Shape("two files of a long path", "table LINE --lines", two_files, 640_000, Growth()),
+    *(
+        Shape(name, words + " --str STRINGS" * with_strings, make, size, Growth(memory=Memory(status=status)))
+        for name, make, size, with_strings in SAME_PATHS
+        for words, status in SAME_PATH_WORDS
+    ),
     Shape("many older units", "upgrade LINE --address-size 8", older_units, 60_000, Growth()),
-    Shape("many older units", "upgrade LINE --address-size 8 --directories DIRECTORIES", older_units, 60_000, Growth()),
+    Shape("many older units", UPGRADE_BESIDE, older_units, 60_000, Growth()),
     Shape("many files of an older unit", "upgrade LINE --address-size 8", older_files, 800_000, Growth()),
     # Twice what it takes. Of 200,000 rows all are kept, of a million not. Where nothing was kept, each address would take as long as one.
     Shape("many addresses", "lookup LINE --addresses ADDRESSES", functools.partial(addresses_in, 200_000), 20_000, Beside(3)),
@@ -418,8 +597,14 @@ SHAPES = [
     Shape("a note about many files", "verify LINE", overlap_of_many_files, 2_000_000, Memory(status=1)),
     Shape("many short sequences", "verify LINE --skip-copies", short_sequences, 1_100_000, Memory(more_for_each(128))),
     Shape("many short units", "verify LINE", short_units, 140_000, Memory(more_for_each(1024))),
+    *(Shape(name, "symbols SYM", *made, bound) for name, (*made, bound) in SYMBOLS.items()),
     # The lines are compared as text, and the table isn't held.
     Shape("a table by path of many lines", "check LINE TABLE", plain_lines, 100_000, Memory(lambda size, given: 4 * size)),
+    Shape("a table by path that is held", "check LINE TABLE --all", held_lines, 500_000, Memory(times(5))),
+    Shape("a header of many fields", UPGRADE_BESIDE, directory_fields(b""), 8_000_000, Memory(times(26), status=1)),
+    Shape("a record of many fields", UPGRADE_BESIDE, directory_fields(b"unit,directory\n"), 8_000_000, Memory(times(10), status=1)),
+    Shape("a long name of an older unit", "upgrade LINE --address-size 8", long_older_name, 8_000_000, Memory(times(5))),
+    Shape("a long line of addresses", "lookup LINE --addresses ADDRESSES", address_line, 8_000_000, Memory(times(8), status=1)),
     Shape("a header of many fields", "check LINE TABLE", fields, 8_000_000, Memory(status=1)),
     Shape("a record of many fields by number", "check LINE TABLE", fields_behind(NUMBERS), 8_000_000, Memory(status=1)),
     Shape("a record of many fields by number", "check LINE TABLE --all", fields_behind(NUMBERS), 8_000_000, Memory(status=1)),
@@ -427,8 +612,6 @@ SHAPES = [
     Shape("a record of many fields by path", "check LINE TABLE --all", fields_behind(PATHS), 8_000_000, Memory(status=1)),
     Shape("rows of a byte and a long path", "linetab-table gsym GSYM", gsym_rows, 20_000, IN_SCRIPT()),
     Shape("the same by their first rows", "linetab-table gsym-17 GSYM", gsym_rows, 20_000, IN_SCRIPT()),
-    Shape("lines of a long path", "linetab-table breakpad SYM", breakpad_lines, 20_000, IN_SCRIPT(times(16))),
-    Shape("functions", "linetab-table breakpad SYM", breakpad_functions, 40_000, IN_SCRIPT(times(16))),
     Shape("sequences", "linetab-table readelf TEXT", readelf_sequences, 100_000, IN_SCRIPT(times(16))),
     Shape("files of a long directory", "linetab-table llvm-dwarfdump TEXT", dumped_files, 20_000, IN_SCRIPT(times(16))),
     Shape("a sparse section", "linetab-object verify OBJECT", sparse_section, 1 << 30, IN_SCRIPT(status=1)),
@@ -493,7 +676,7 @@ def main():
         def files_of(make, size):
             return Files(make(size), size, os.path.join(folder, "%d" % files_of.cache_info().currsize))
 
-        asked = [word for word in sys.argv[1:] if not word.startswith("--")]
+        asked = [word for word in [*sys.argv[1:], os.environ.get("ONLY", "")] if word and not word.startswith("--")]
         for shape in [it for it in SHAPES if not asked or any(word in it.words + ": " + it.name for word in asked)]:
             fault, figures = shape.bound.judged(measured, shape, files_of)
             if "--figures" in sys.argv:

@@ -3,7 +3,9 @@
 
 mod judged;
 mod paths;
+mod same;
 
 pub use judged::tables_fault;
 pub(crate) use paths::entry_at;
 pub use paths::{file_count, listed, path_of};
+pub use same::{same_texts, texts_number};

@@ -1,7 +1,7 @@
 -- The spans of an index, one after another.
 use Rattle.std.proofs.Common.{◌≡◌, ◌∙◌, ℕ, suc, ◌+◌, ◌^◌, ◌<◌, List, [], ◌∷◌, ◌++◌, Option, Some, None, refl, sym, ap, subst, arith, get_or}
-use Rattle.std.proofs.Common.{length, IfSome, IsSomeAnd, map, IsPermutation}
-use Rattle.std.specs.List.{AllByRecursion, AllZip}
+use Rattle.std.proofs.Common.{append-nil, length, IfSome, IsSomeAnd, map, IsPermutation}
+use Rattle.std.specs.List.{AllByRecursion, AllZip, Contains}
 use Rattle.std.proofs.lemmas.List.Elements.{recursion_from_All}
 use Rattle.std.proofs.lemmas.List.Sorted.{All-permutation}
 use Rattle.lnt_header.specs.declared.unit_parts.UnitParts.{UnitParts}
@@ -13,14 +13,19 @@ use Rattle.lnt_spans.specs.Remaining.{GivesFirstSpan}
 use Rattle.lnt_spans.specs.Spans.{FitsSpan, FitSpans}
 use Rattle.lnt_sequences.specs.declared.extent.Extent.{Extent}
 use Rattle.lnt_sequences.specs.declared.sequence.SeqId.{SeqId}
-use Rattle.lnt_sequences.specs.RowSpans.{EntriesInTurn, IsExtentOf, row_spans, spans_of, GivesSpan, HasSpans, rows_left}
+use Rattle.lnt_sequences.specs.RowSpans.{EntriesInTurn, IsExtentOf, row_spans, spans_of, GivesSpan, HasSpans, rows_left, SpansInTurn}
+use Rattle.lnt_sequences.specs.Laws.{SequenceSpans}
+use Rattle.lnt_sequences.specs.Rules.{IsOrdered}
+use Rattle.lnt_sequences.specs.Watching.{last_after}
+use Rattle.lnt_spans.specs.Spans.{AreInOrder}
+use Rattle.lnt_spans.proofs.PositionLaws.{at_most_itself}
 use Rattle.lnt_sequences.proofs.FittingLaws.{kept_spans_fit}
 use Rattle.lnt_sequences.proofs.KeptLaws.{kept_ordered}
-use Rattle.lnt_sequences.specs.Sequences.{kept_sequences, live_sequences, Placed, Selection}
-use Rattle.lnt_lines.specs.Cursors.{AreToCome, ComeLater, Cursor, GivesAllOf, room_for, room_of, rows_here}
+use Rattle.lnt_sequences.specs.Sequences.{kept_sequences, live_sequences, Placed, position_of, Selection}
+use Rattle.lnt_lines.specs.Cursors.{AreToCome, ComeLater, Cursor, GivesAllOf, GivesSequence, room_for, room_of, rows_here}
 use Rattle.lnt_lines.specs.Stepping.{GivesHere}
 use Rattle.lnt_lines.specs.Indexed.{Indexed, IsIndexOf, IsSequenceIn}
-use Rattle.lnt_lines.proofs.IndexLemmas.{sequence_in}
+use Rattle.lnt_lines.proofs.IndexLemmas.{live_in_index, live_ordered, sequence_in}
 use Rattle.lnt_lines.proofs.WholeLemmas.{whole_spans}
 
 -- ---- the sequence at hand
@@ -165,4 +170,43 @@ gives_all selection index law numbers small is =
       whole = whole_spans selection (spans_of all.in_turn) all.in_order all.answers;
       enough = all.count;
       fits = fitting_spans selection index (spans_of all.in_turn) is numbers small all.permuted;
+    }
+
+-- ---- one sequence alone
+
+pub one_begun : (units : List ℕ) (programs : List KeptProgram) (unit : ℕ) (rows : List Row) (found : Option SequenceWalk)
+    → IsSomeAnd found (WillGive rows)
+    → AreToCome (record { units = units; programs = programs; entries = []; unit = unit; rows = found; last = None }) (row_spans unit rows)
+one_begun units programs unit rows None gives = absurd gives
+one_begun units programs unit rows (Some walk) gives = record {
+  here = row_spans unit rows;
+  later = [];
+  come_here = record { rows = rows; to_come = gives; spans_are = refl };
+  come_later = record { sequences = []; each = tt; spans_are = refl };
+  spans_are = sym (append-nil (row_spans unit rows));
+}
+
+-- its spans are in order
+one_in_order : (placed : Placed) → SpansInTurn → IsOrdered placed.rows → AreInOrder (row_spans placed.id.unit placed.rows)
+one_in_order placed law ordered = by_rows placed.rows refl
+  where
+    by_rows : (rows : List Row) → placed.rows ≡ rows → AreInOrder (row_spans placed.id.unit placed.rows)
+    by_rows [] e = rw e tt
+    by_rows (row ∷ rows) e = subst AreInOrder (append-nil (row_spans placed.id.unit placed.rows))
+        (law (position_of row) (position_of (last_after row rows)) (placed ∷ [])
+        (row, rows, e, at_most_itself (position_of row), at_most_itself (position_of (last_after row rows))) (ordered, tt))
+
+pub gives_sequence : (selection : Selection) (index : Indexed) (placed : Placed) (id : SeqId) (cursor : Cursor) → SequenceSpans
+    → SpansInTurn → IsIndexOf selection index → Contains (live_sequences selection.dead selection.units) placed → placed.id ≡ id
+    → ((rows : List Row) → IsSequenceIn index.units index.programs id rows → AreToCome cursor (row_spans id.unit rows))
+    → GivesSequence placed cursor
+gives_sequence selection index placed id cursor spans in_turn is live same comes =
+    let ordered = live_ordered selection index placed is live in
+    record {
+      spans = row_spans placed.id.unit placed.rows;
+      to_come = subst (λ (i : SeqId). AreToCome cursor (row_spans i.unit placed.rows)) (sym same)
+          (comes placed.rows (live_in_index selection index id placed is live same));
+      in_order = one_in_order placed in_turn ordered;
+      held = λ p. (spans placed.id.unit placed.rows p ordered).0;
+      unheld = λ p. (spans placed.id.unit placed.rows p ordered).1;
     }

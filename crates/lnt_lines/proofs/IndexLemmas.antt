@@ -40,11 +40,11 @@ zip_at R (u ∷ xs) [] k x y all few = absurd all
 zip_at R (u ∷ xs) (v ∷ ys) zero x y all few = (all.0, omega arith)
 zip_at R (u ∷ xs) (v ∷ ys) (suc k) x y all few = let more = zip_at R xs ys k x y all.1 (omega arith) in (more.0, omega (arith, more.1))
 
-pub sequence_in : (selection : Selection) (index : Indexed) (id : SeqId) (placed : Placed) → IsIndexOf selection index
-    → Contains (kept_sequences selection) placed → placed.id ≡ id → IsSequenceIn index.units index.programs id placed.rows
-sequence_in selection index id placed is contained same =
+pub live_in_index : (selection : Selection) (index : Indexed) (id : SeqId) (placed : Placed) → IsIndexOf selection index
+    → Contains (live_sequences selection.dead selection.units) placed → placed.id ≡ id
+    → IsSequenceIn index.units index.programs id placed.rows
+live_in_index selection index id placed is live same =
     let units = selection.units in
-    let live = kept_live selection.skip (live_sequences selection.dead units) placed contained in
     let one = live_placed selection.dead units placed live in
     let at = offset_at units one.place one.unit one.within in
     let offset : get_or index.units one.place 0 ≡ id.unit =
@@ -65,6 +65,18 @@ sequence_in selection index id placed is contained same =
       rows_are = λ d. one.rows_are d ∙ ap (λ (i : SeqId). (get_or (sequences one.unit.1) i.index d).rows) same;
     }
 
+pub sequence_in : (selection : Selection) (index : Indexed) (id : SeqId) (placed : Placed) → IsIndexOf selection index
+    → Contains (kept_sequences selection) placed → placed.id ≡ id → IsSequenceIn index.units index.programs id placed.rows
+sequence_in selection index id placed is contained same = live_in_index selection index id placed is
+    (kept_live selection.skip (live_sequences selection.dead selection.units) placed contained) same
+
+-- positions fall in no live sequence
+pub live_ordered : (selection : Selection) (index : Indexed) (placed : Placed) → IsIndexOf selection index
+    → Contains (live_sequences selection.dead selection.units) placed → IsOrdered placed.rows
+live_ordered selection index placed is live =
+    subst (λ (s : Placed). IsOrdered s.rows) live.2
+    (all_at (λ (s : Placed). IsOrdered s.rows) (live_sequences selection.dead selection.units) live.0 placed live.1 is.ordered)
+
 pub found_answer : (selection : Selection) (index : Indexed) (p : spans.Position) (extent : Extent) → HolderAnswers
     → IsIndexOf selection index → IsHolder index.entries p extent → Answers selection index p extent.id
 found_answer selection index p extent law is holder =
@@ -72,11 +84,8 @@ found_answer selection index p extent law is holder =
     record {
       rows = answers.placed.rows;
       sequence_is = sequence_in selection index extent.id answers.placed is answers.contained answers.id_is;
-      ordered =
-          let all = live_sequences selection.dead selection.units in
-          let live = kept_live selection.skip all answers.placed answers.contained in
-          subst (λ (placed : Placed). IsOrdered placed.rows) live.2
-          (all_at (λ (placed : Placed). IsOrdered placed.rows) all live.0 answers.placed live.1 is.ordered);
+      ordered = live_ordered selection index answers.placed is
+          (kept_live selection.skip (live_sequences selection.dead selection.units) answers.placed answers.contained);
       answer_is = answers.answer_is ∙ ap (λ (i : SeqId). option_map (answer_of i.unit) (row_at p answers.placed.rows)) answers.id_is;
     }
 

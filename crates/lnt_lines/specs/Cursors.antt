@@ -1,5 +1,5 @@
 -- All spans of an index, one after another: a sequence is decoded when its spans come next.
-use Rattle.std.specs.Prelude.{◌≡◌, ℕ, ◌+◌, ◌≤◌, List, [], ◌∷◌, ◌++◌, length, Option, Some, None, IsPermutation}
+use Rattle.std.specs.Prelude.{◌≡◌, ℕ, ◌+◌, ◌≤◌, List, [], ◌∷◌, ◌++◌, length, Option, Some, None, IsPermutation, option_map}
 use Rattle.std.specs.List.{AllZip}
 use Rattle.lnt_machine.specs.declared.row.Row.{Row}
 use Rattle.lnt_machine.specs.Walking.{KeptProgram, SequenceWalk}
@@ -8,7 +8,7 @@ use Rattle.lnt_spans.specs.declared.span.Span.{Span}
 use Rattle.lnt_spans.specs.Spans.{FitSpans, AreInOrder, span_answer}
 use Rattle.lnt_sequences.specs.declared.extent.Extent.{Extent}
 use Rattle.lnt_sequences.specs.RowSpans.{spans_of, HasSpans, rows_left}
-use Rattle.lnt_sequences.specs.Sequences.{kept_sequences, line_answer, Placed, Selection}
+use Rattle.lnt_sequences.specs.Sequences.{answer_of, Holds, kept_sequences, line_answer, Placed, row_at, Selection}
 use Rattle.lnt_lines.specs.Contents.{AreWhole}
 use Rattle.lnt_lines.specs.Indexed.{IsSequenceIn}
 
@@ -52,6 +52,15 @@ pub record GivesAllOf (selection : Selection) (count : ℕ) (cursor : Cursor) : 
   pub whole : AreWhole spans
   pub enough : count ≤ length spans
   pub fits : FitSpans spans
+
+-- What is to come are the spans of this sequence: they are in order, and answer as its rows do at the positions that it holds, and
+-- nowhere else.
+pub record GivesSequence (placed : Placed) (cursor : Cursor) : Type 0 where
+  pub spans : List Span
+  pub to_come : AreToCome cursor spans
+  pub in_order : AreInOrder spans
+  pub held : (p : Position) → Holds placed.rows p → span_answer spans p ≡ option_map (answer_of placed.id.unit) (row_at p placed.rows)
+  pub unheld : (p : Position) → (Holds placed.rows p → ⊥) → span_answer spans p ≡ None
 
 -- ---- how many there are at most
 

@@ -18,6 +18,7 @@ pub use Rattle.lnt_header.specs.declared.unit_parts.UnitParts as DeclaredParts
 -- of their tables and of their rows
 pub use Rattle.lnt_files.specs.Tables
 pub use Rattle.lnt_machine.specs.Matrix
+pub use Rattle.lnt_sequences.specs.Copies
 pub use Rattle.lnt_sequences.specs.FaultTexts as SequenceTexts
 pub use Rattle.lnt_sequences.specs.RowSpans
 pub use Rattle.lnt_sequences.specs.Sequences

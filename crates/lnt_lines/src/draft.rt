@@ -1,6 +1,7 @@
 //! The state of judging a section, unit by unit.
-ghost use Rattle.std.specs.Prelude.{◌≡◌, ◌≤◌, ℕ, List, [], ◌∷◌, ◌++◌, length, drop, Option, IfOk, OnOk, IfErr};
+ghost use Rattle.std.specs.Prelude.{◌≡◌, ◌≤◌, ℕ, List, [], ◌∷◌, ◌++◌, true, length, drop, Option, IfOk, OnOk, IfErr};
 ghost use Rattle.lnt_header.specs.declared.unit_parts.UnitParts.{UnitParts};
+ghost use Rattle.lnt_sequences.specs.Copies.{AreExtentsOf};
 ghost use Rattle.lnt_sequences.specs.Extents.{IsFirstOverlap};
 ghost use Rattle.lnt_sequences.specs.Rules.{AreApart};
 ghost use Rattle.lnt_sequences.specs.Sequences.{Placed, kept_of};
@@ -14,7 +15,7 @@ use crate::judge::judge_unit;
 use crate::refusal::Refusal;
 use lnt_files::StringEnds;
 use lnt_machine::Program;
-use lnt_sequences::{Collected, Overlap};
+use lnt_sequences::{Collected, Extent, Overlap};
 use lnt_unit::UnitBuffer;
 use lnt_wire::Strings;
 use std::alloc::{AllocError, Global};
@@ -77,14 +78,29 @@ impl Draft {
         Ok(())
     }
 
+    /// The extents of all live sequences that hold positions, if copies are skipped; else none. Fails only if memory runs out.
+    pub(crate) fn live(&self, alloc: Global, skip_copies: bool) -> Result<Vec<Extent>, AllocError>
+        ensures { IfOk result (λ live. skip_copies ≡ true → (sequences : List Placed) → Collects self.now.collected sequences
+            → AreExtentsOf sequences live.items) }
+    {
+        if !skip_copies {
+            return Ok(Vec::new(alloc));
+        }
+        self.collected.all_entries(alloc)
+    }
+
     /// The index of the section, once its last unit was added; or the first overlap of two live sequences, apart from
-    /// copies if these are skipped. The strings are those with which the units were judged.
+    /// copies if these are skipped. `live` gave the extents of the live ones. The strings are those with which the units were
+    /// judged.
     pub(crate) fn index<'a>(
         self,
         strings: &Strings<'a>,
+        live: Vec<Extent>,
         skip_copies: bool,
     ) -> Result<Index<'a>, Overlap>
-        requires { IsWholeDraft strings.now.line.now strings.now.general.now self }
+        requires whole { IsWholeDraft strings.now.line.now strings.now.general.now self }
+        requires live { skip_copies ≡ true → (sequences : List Placed) → Collects self.collected sequences
+            → AreExtentsOf sequences live.items }
         ensures index { IfOk result (λ index. (dead : Option ℕ) (units : List (ℕ × UnitParts))
             → IsDraftOf strings.now.line.now strings.now.general.now dead units self
             → IsIndexOf (record { dead = dead; skip = skip_copies; units = units }) index) }
@@ -101,7 +117,7 @@ impl Draft {
             programs,
         } = self;
         let entries = collected.entries(skip_copies)?;
-        Ok(Index::of(strings, entries, units, programs))
+        Ok(Index::of(strings, entries, live, units, programs))
     }
 }
 

@@ -1,16 +1,16 @@
 //! What a good section answers, with its rows decoded again when they are needed.
 ghost use Rattle.std.specs.Prelude.{◌≡◌, ◌↔◌, ◌+◌, ◌-◌, ◌^◌, ◌<◌, ◌≤◌, ℕ, List, length, Option, None, IfNone, IfOk, IfSome, IsSome};
 ghost use Rattle.std.specs.Prelude.{IsSomeAnd, IsTrue, IsPermutation, option_map};
-ghost use Rattle.std.specs.List.{All, AllByRecursion, AllZip};
+ghost use Rattle.std.specs.List.{All, AllByRecursion, AllZip, Contains};
 ghost use Rattle.lnt_header.specs.Joins.{AreRising};
 ghost use Rattle.lnt_machine.specs.declared.row.Row.{Row};
 ghost use Rattle.lnt_machine.specs.Walking.{WillGive};
 ghost use Rattle.lnt_files.specs.Files.{AreFilesOf};
 ghost use Rattle.lnt_files.specs.Tables.{AreUsableTables};
 ghost use Rattle.lnt_sequences.specs.RowSpans.{spans_of, rows_left};
-ghost use Rattle.lnt_sequences.specs.Sequences.{kept_sequences, line_answer};
+ghost use Rattle.lnt_sequences.specs.Sequences.{kept_sequences, line_answer, live_sequences, Placed};
 ghost use Rattle.lnt_spans.specs.declared.span.Span.{Span};
-ghost use Rattle.lnt_lines.specs.Cursors.{GivesAllOf, room_of};
+ghost use Rattle.lnt_lines.specs.Cursors.{GivesAllOf, GivesSequence, room_of};
 ghost use Rattle.lnt_lines.specs.Indexed.{Answers, HasOneOperation, IsIndex, IsSequenceIn, file_count_in, file_path_in, file_sum_in};
 ghost use Rattle.lnt_lines.specs.Indexed.{header_in, OfUnits};
 ghost use Rattle.lnt_spans.specs.Spans.{IsOfInstructions};
@@ -18,7 +18,7 @@ ghost use Rattle.lnt_spans.specs.Spans.{IsOfInstructions};
 use crate::lines::place_of;
 use crate::spans::Spans;
 use lnt_files::Files;
-use lnt_files::in_place::{file_count, listed, path_of};
+use lnt_files::in_place::{file_count, listed, path_of, same_texts, texts_number};
 use lnt_header::Header;
 use lnt_header_bytes::HeaderView;
 use lnt_machine::{Program, SequenceRows};
@@ -38,6 +38,8 @@ use std::marker::Model;
 pub struct Index<'a> {
     strings: Strings<'a>,
     entries: Vec<Extent>,
+    // those of all live sequences, copies too, by first position, if copies are skipped; else none
+    live: Vec<Extent>,
     units: Vec<u64>,
     programs: Vec<Program>,
 }
@@ -59,6 +61,7 @@ impl<'a> Model for Index<'a> {
       line = i.strings.line.now;
       general = i.strings.general.now;
       entries = i.entries.items;
+      live = i.live.items;
       units = i.units.items;
       programs = i.programs.items;
     } };
@@ -67,6 +70,7 @@ impl<'a> Model for Index<'a> {
       line = i.strings.line.now;
       general = i.strings.general.now;
       entries = i.entries.items;
+      live = i.live.items;
       units = i.units.items;
       programs = i.programs.items;
     }) };
@@ -77,6 +81,7 @@ impl<'a> Index<'a> {
     pub(crate) fn of(
         strings: &Strings<'a>,
         entries: Vec<Extent>,
+        live: Vec<Extent>,
         units: Vec<u64>,
         programs: Vec<Program>,
     ) -> Index<'a>
@@ -84,6 +89,7 @@ impl<'a> Index<'a> {
           line = strings.now.line.now;
           general = strings.now.general.now;
           entries = entries.items;
+          live = live.items;
           units = units.items;
           programs = programs.items;
         }) }
@@ -91,6 +97,7 @@ impl<'a> Index<'a> {
           line = strings.now.line.now;
           general = strings.now.general.now;
           entries = entries.items;
+          live = live.items;
           units = units.items;
           programs = programs.items;
         } }
@@ -98,6 +105,7 @@ impl<'a> Index<'a> {
         Index {
             strings: *strings,
             entries,
+            live,
             units,
             programs,
         }
@@ -165,6 +173,24 @@ impl<'a> Index<'a> {
         Spans::of(&self.units, &self.programs, &self.entries)
     }
 
+    /// The extents of all live sequences that hold positions, copies too, by first position and then by place in the section. There
+    /// are none unless copies are skipped.
+    pub fn live(&self) -> &[Extent]
+        ensures { result.now ≡ self.now.live }
+    {
+        self.live.as_slice()
+    }
+
+    /// The spans of the live sequence with this id, as `spans` gives those of the kept ones. Allocates nothing.
+    pub fn spans_of(&self, id: SeqId) -> Spans<'_>
+        ensures { OfUnits self.now (λ selection. (placed : Placed) → Contains (live_sequences selection.dead selection.units) placed
+            → placed.id ≡ id → GivesSequence placed result) }
+    {
+        lnt_sequences::laws::sequence_spans();
+        lnt_sequences::laws::spans_in_turn();
+        Spans::of_one(&self.units, &self.programs, id)
+    }
+
     /// Whether no instruction of the units has more than one operation, as `maximum_operations_per_instruction` says in the
     /// header of each (DWARF 5, section 6.2.4). Then each span begins and ends at operation index 0. The rows aren't walked.
     pub fn has_single_operations(&self) -> bool
@@ -216,6 +242,29 @@ impl<'a> Index<'a> {
             return Ok(None);
         };
         path_of(alloc, &header, self.strings, file)
+    }
+
+    /// Whether the paths of two files are made of the same texts, as `same_texts` says. `true`: the paths are the same. `false`: they may
+    /// be, or there is no such file or unit. Allocates nothing.
+    pub fn same_texts(&self, unit: u64, file: u64, other_unit: u64, other_file: u64) -> bool
+        ensures { IsTrue result → file_path_in self.now unit file ≡ file_path_in self.now other_unit other_file }
+    {
+        let Some(one) = self.header_of(unit) else {
+            return false;
+        };
+        let Some(other) = self.header_of(other_unit) else {
+            return false;
+        };
+        same_texts(&one, file, &other, other_file, unit == other_unit)
+    }
+
+    /// A number that is the same for most files whose paths are made of the same texts, and differs for most others, as `texts_number`
+    /// in `lnt_files` gives it.
+    pub fn texts_number(&self, unit: u64, file: u64) -> u64 {
+        match self.header_of(unit) {
+            Some(header) => texts_number(&header, unit, file),
+            None => 0,
+        }
     }
 
     /// The header of the unit at this offset, with its directories and files in memory, for a caller that needs many of

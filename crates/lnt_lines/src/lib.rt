@@ -4,6 +4,15 @@
 //!
 //! Start with [`verify`], whose [`Lines`] hold all spans and don't need the section any more, or with [`index_section`],
 //! whose [`Index`] is smaller and decodes rows when they are needed.
+//!
+//! The lines of a section in memory of at most 70 bytes, or why it isn't good:
+//!
+//! ```
+//! match verify(alloc, &mut Counted::new(bytes, 70), strings, options)? {
+//!     Judged::Good(lines) => Ok(Ok(lines)),
+//!     Judged::Bad(no) => Ok(Err(no)),
+//! }
+//! ```
 #![tactic(auto)]
 
 mod draft;

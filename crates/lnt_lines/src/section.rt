@@ -105,7 +105,8 @@ fn judge_section<'a, R: Source>(
 {
     let mut reader = SectionReader::new(section, options.order);
     let draft = judge_units(alloc, &mut reader, strings, options)?;
-    Ok(draft.index(strings, options.skip_copies)?)
+    let live = draft.live(alloc, options.skip_copies)?;
+    Ok(draft.index(strings, live, options.skip_copies)?)
 }
 
 // Judges the units from the reader, up to the end of the section or the first that isn't valid.

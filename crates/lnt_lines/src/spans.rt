@@ -2,12 +2,15 @@
 ghost use Rattle.std.specs.Prelude.{◌≡◌, ◌<◌, List, [], None, IfSome, true, MatchBool};
 ghost use Rattle.lnt_header.specs.Joins.{AreRising};
 ghost use Rattle.lnt_spans.specs.declared.span.Span as spec;
+ghost use Rattle.lnt_machine.specs.declared.row.Row as spec_row;
+ghost use Rattle.lnt_sequences.specs.RowSpans.{row_spans};
+ghost use Rattle.lnt_lines.specs.Indexed.{IsSequenceIn};
 ghost use Rattle.lnt_lines.specs.Cursors.{AreToCome, ComeLater, most_left, room_for, room_of};
 ghost use Rattle.lnt_lines.specs.Stepping.{GivesHere};
 
 use crate::index::rows_of;
 use lnt_machine::{Program, Row, SequenceRows};
-use lnt_sequences::{Extent, next_span};
+use lnt_sequences::{Extent, SeqId, next_span};
 use lnt_spans::{Span, SpanSource};
 use std::marker::Model;
 
@@ -63,6 +66,22 @@ impl<'a> Spans<'a> {
             entries,
             unit: 0,
             rows: None,
+            last: None,
+        }
+    }
+
+    // The spans of the sequence with this id alone.
+    pub(crate) fn of_one(units: &'a [u64], programs: &'a [Program], id: SeqId) -> Spans<'a>
+        requires { AreRising units.now }
+        ensures { (rows : List spec_row.Row) → IsSequenceIn units.entry.now programs.entry.now id rows
+            → AreToCome result (row_spans id.unit rows) }
+    {
+        Spans {
+            units,
+            programs,
+            entries: &[],
+            unit: id.unit,
+            rows: rows_of(units, programs, id),
             last: None,
         }
     }

@@ -2,7 +2,7 @@
 use Rattle.std.specs.Prelude.{◌≡◌, ◌≢◌, ℕ, List, Option, IfSome, MatchBool, All}
 use Rattle.lnt_records.specs.declared.by_path.kept.FileText.{FileText}
 use Rattle.lnt_records.specs.declared.by_path.kept.FileTexts.{FileTexts}
-use Rattle.lnt_records.specs.declared.by_path.fields.ComparedFiles.{ComparedFiles}
+use Rattle.lnt_records.specs.declared.by_path.alike.ComparedFiles.{ComparedFiles}
 use Rattle.lnt_records.specs.declared.by_path.told.ToldFile.{ToldFile}
 
 -- For each file in a slot, it is remembered correctly whether its path is this one.
@@ -22,5 +22,5 @@ pub record AreTextsOf (text_of : ℕ → ℕ → List ℕ) (texts : FileTexts) :
 -- For the two files in each slot, it is remembered correctly whether their paths are the same.
 abbrev pub ArePairsOf : (ℕ → ℕ → List ℕ) → List (Option ComparedFiles) → Type 0
 ArePairsOf path slots = All (λ slot. IfSome slot (λ pair. MatchBool pair.same
-    (path pair.unit pair.file ≡ path pair.other_unit pair.other_file)
-    (path pair.unit pair.file ≢ path pair.other_unit pair.other_file))) slots
+    (path pair.one.unit pair.one.file ≡ path pair.other.unit pair.other.file)
+    (path pair.one.unit pair.one.file ≢ path pair.other.unit pair.other.file))) slots

@@ -39,7 +39,7 @@ path_field path unit file = field_with_comma (path unit file)
 -- Every field is that of its file, and it is remembered correctly which files have the same path, if these are the paths of files.
 pub record AreFieldsOf (path : ℕ → ℕ → List ℕ) (fields : PathFields) : Type 0 where
   pub texts : AreTextsOf (path_field path) fields.texts
-  pub pairs : ArePairsOf path fields.pairs
+  pub pairs : ArePairsOf path fields.alike.pairs.items
 
 -- the lines of spans, with only the addresses of their positions
 abbrev pub plain_told : (Answer → PathAnswer) → LineFormat PathVersion Span

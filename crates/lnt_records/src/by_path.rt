@@ -1,5 +1,6 @@
 //! Records and lines of tables by path: with the full path of a file, instead of a unit and a file number.
 
+mod alike;
 mod field;
 mod fields;
 mod header;
@@ -17,5 +18,5 @@ pub use line::{addresses_before, place_before, put_line};
 pub use paths::Paths;
 pub use plain::first_record;
 pub use record::{PathRecord, SaidPath, record_of};
-pub use told::ToldFiles;
+pub use told::{ToldFile, ToldFiles};
 pub use version::PathVersion;

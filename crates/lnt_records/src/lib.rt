@@ -23,7 +23,7 @@ mod wide;
 mod write;
 
 pub use by_path::{
-    FileText, FileTexts, PathFields, PathRecord, PathVersion, Paths, SaidPath, ToldFiles,
+    FileText, FileTexts, PathFields, PathRecord, PathVersion, Paths, SaidPath, ToldFile, ToldFiles,
     addresses_before, first_record, place_before, put_line, record_of,
 };
 pub use column::{Columns, address_at, decimal_at, field, has_fields};

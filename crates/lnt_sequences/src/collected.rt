@@ -1,12 +1,13 @@
 //! The positions that the live sequences of a section hold.
 ghost use Rattle.std.specs.Prelude.{◌≡◌, ◌++◌, [], IfOk, OnOk, IfErr, List, IsPermutation};
+ghost use Rattle.lnt_sequences.specs.Copies.{AreExtentsOf};
 ghost use Rattle.lnt_sequences.specs.Extents.{AreSettled, IsFirstOverlap, extent_between, extents_of};
 ghost use Rattle.lnt_sequences.specs.Rules.{AreApart, AreDistinct};
 ghost use Rattle.lnt_sequences.specs.Sequences as spec;
 ghost use Rattle.lnt_sequences.specs.Sequences.{Placed, kept_of};
 ghost use Rattle.lnt_sequences.specs.Watching.{Collects};
 
-use crate::extent::{Extent, Overlap, first_overlap, kept};
+use crate::extent::{Extent, Overlap, first_overlap, kept, sort};
 use crate::sequence::SeqId;
 use lnt_machine::Row;
 use lnt_spans::{Answer, More, Position};
@@ -55,6 +56,16 @@ impl Collected {
             Some(overlap) => Err(overlap),
             None => Ok(extents),
         }
+    }
+
+    /// The extents of the collected sequences that hold positions, copies too, by first position and then by place in the section.
+    /// Fails only if memory runs out.
+    pub fn all_entries(&self, alloc: Global) -> Result<Vec<Extent>, AllocError>
+        ensures { IfOk result (λ all. (sequences : List Placed) → Collects self.now sequences → AreExtentsOf sequences all.items) }
+    {
+        let mut all = Vec::from_slice(alloc, &self.extents)?;
+        sort(&mut all);
+        Ok(all)
     }
 
     // Appends the extent of a sequence, from `first` up to `last`, if it holds any position.

@@ -103,7 +103,7 @@ pub(crate) fn first_overlap(extents: &mut [Extent]) -> Option<Overlap>
 }
 
 // Sorts extents by first position, and then by place in the section.
-fn sort(extents: &mut [Extent])
+pub(crate) fn sort(extents: &mut [Extent])
     ensures permutation { IsPermutation extents.old extents.new }
     ensures sorted { AreSorted extents.new }
 {

@@ -1,4 +1,5 @@
 //! Laws of what rows say of positions, each the contract of a function without parameters that does nothing.
+ghost use Rattle.lnt_sequences.specs.Copies.{AnyAnswers, ExtentsOfSequences};
 ghost use Rattle.lnt_sequences.specs.Extents.{HolderAnswers};
 ghost use Rattle.lnt_sequences.specs.RowSpans.{EntriesInTurn, SpansInTurn};
 ghost use Rattle.lnt_sequences.specs.Laws.{AnswersAsHolder, CollectedUnit, ConvertedAnswers, DistinctSequences, FallIsNotOrdered};
@@ -81,3 +82,16 @@ pub fn converted_answers()
 {
     lnt_machine::laws::same_matrix();
 }
+
+/// What the kept sequences answer, one of the live ones says, and no live one holds a position at which they answer nothing. If
+/// no position is held by two live sequences, the kept ones answer what any live one says.
+#[tactic(auto, using(crate::proofs::AnyLemmas::any_answers))]
+pub fn any_answers()
+    ensures { AnyAnswers }
+{}
+
+/// Each of the extents of sequences is that of one of them, and a sequence that holds a position has its extent among them.
+#[tactic(auto, using(crate::proofs::AnyLemmas::extents_of_sequences))]
+pub fn extents_of_sequences()
+    ensures { ExtentsOfSequences }
+{}

@@ -44,6 +44,10 @@ HasFewerOrEnds left old new end =
     × ((runs_left new.at new.section.next (left new.section.spans) < runs_left old.at old.section.next (left old.section.spans))
     ⊎ (end ≡ Some new.at))
 
+-- from `at` on, this is answered up to `until`
+abbrev pub StaysUntil : {X : Type 0} → (Position → Option X) → Position → Position → Option X → Type 0
+StaysUntil answers at until answer = (p : Position) → IsAtMost at p → IsBelow p until → answers p ≡ answer
+
 -- Whether no stretch begins with these two answers: they are alike, or each is as it was before.
 abbrev pub IsKnown : {X : Type 0} → Bool → Option X → Option X → Option X → Option X → Type 0
 IsKnown known section table section_before table_before = MatchBool known

@@ -1,11 +1,13 @@
 //! Lists all stretches of positions at which a section and a table answer differently, one after another.
 ghost use Rattle.std.specs.Prelude.{◌≡◌, ◌≢◌, ◌⊎◌, ◌+◌, ◌^◌, ◌<◌, ◌≤◌, List, ◌∷◌, ◌++◌, [], None, Option, Some, MatchOption, IfOk, IfSome};
-ghost use Rattle.std.specs.Prelude.{OnOk, MatchBool, option_map};
+ghost use Rattle.std.specs.Prelude.{OnOk, IsTrue, MatchBool, option_map};
 ghost use Rattle.lnt_spans.specs.declared.position.Position as spec_position;
 ghost use Rattle.lnt_spans.specs.AnyStretches.{AreAllStretches, EndsAt, Stretch};
 ghost use Rattle.lnt_spans.specs.Partial.{addresses_answered, where_missed};
+ghost use Rattle.lnt_spans.specs.Positions.{IsBelow};
 ghost use Rattle.lnt_spans.specs.Runs.{IsBefore, IsUpTo};
-ghost use Rattle.lnt_spans.specs.Stepping.{HasFewerOrEnds, HasGivenIn, IsInRun, IsKnown, StretchStep, answered_between, missed_between};
+ghost use Rattle.lnt_spans.specs.Stepping.{HasFewerOrEnds, HasGivenIn, IsInRun, IsKnown, StaysUntil, StretchStep, answered_between};
+ghost use Rattle.lnt_spans.specs.Stepping.{missed_between};
 ghost use Rattle.lnt_spans.specs.Stretching.{HasBegun, HasGiven, IsGoing, stretches_to_give};
 
 use crate::ahead::Ahead;
@@ -140,20 +142,28 @@ pub fn stretch_end<S: SpanSource, N: Runs<T::Said>, T: Telling>(
         → IsGoing (T.tell telling.now) T.said stretches.old by_section by_table last → EndsAt by_section by_table last end) }
     ensures fewer { OnOk result (stretches_to_give S.left N.runs stretches.new ≤ stretches_to_give S.left N.runs stretches.old) }
 {
-    while goes_on(stretches, telling, memory)? {}
+    let mut until = stretches.at;
+    while goes_on(stretches, telling, memory, &mut until)? {}
     Ok(stretches.at)
 }
 
-// Steps to the next position at which an answer may end, if both are the same as before.
+// Steps to the next position at which an answer may end, if both are the same as before. Below `until` the table's answer is known to
+// be as before, and isn't compared.
 fn goes_on<S: SpanSource, N: Runs<T::Said>, T: Telling>(
     stretches: &mut Stretches<S, N, T::Said>,
     telling: &T,
     memory: &mut T::Memory,
+    until: &mut Position,
 ) -> Result<bool, T::Refusal>
     requires sound { T.is_sound telling.now memory.old }
     requires given { (by_section : spec_position.Position → Option T.Told) × (by_table : spec_position.Position → Option T.Told)
         × (given : List (Stretch T.Told))
-        × HasGiven S.to_come N.is_at N.value_of (T.tell telling.now) T.said stretches.old by_section by_table given }
+        × HasGiven S.to_come N.is_at N.value_of (T.tell telling.now) T.said stretches.old by_section by_table given
+        × StaysUntil by_table stretches.old.at until.old (option_map T.said stretches.old.before.table) }
+    ensures until { OnOk result ((by_section by_table : spec_position.Position → Option T.Told) (given : List (Stretch T.Told))
+        → HasGiven S.to_come N.is_at N.value_of (T.tell telling.now) T.said stretches.old by_section by_table given
+        → StaysUntil by_table stretches.old.at until.old (option_map T.said stretches.old.before.table)
+        → StaysUntil by_table stretches.new.at until.new (option_map T.said stretches.new.before.table)) }
     ensures sound { OnOk result (T.is_sound telling.now memory.new) }
     ensures given { OnOk result ((by_section by_table : spec_position.Position → Option T.Told) (given : List (Stretch T.Told))
         → HasGiven S.to_come N.is_at N.value_of (T.tell telling.now) T.said stretches.old by_section by_table given
@@ -178,9 +188,11 @@ fn goes_on<S: SpanSource, N: Runs<T::Said>, T: Telling>(
         section: section.answer,
         table: table.answer,
     };
-    if !are_as_before(telling, memory, both, stretches.before)? {
+    let is_same = is_below(at, *until);
+    if !are_as_before(telling, memory, both, stretches.before, is_same)? {
         return Ok(false);
     }
+    *until = end_or(table.end, end);
     stretches.table.pass_to(end);
     stretches.section.pass_to(end);
     stretches.at = end;
@@ -210,11 +222,13 @@ fn pass_run<S: SpanSource, N: Runs<T::Said>, T: Telling>(
 {
     let run = stretches.table.run_at(stretches.at);
     let mut recalled = telling.nothing();
-    while let Some(step) = take_step(stretches, telling, memory, &mut recalled, run)? {
+    let mut is_same = false;
+    while let Some(step) = take_step(stretches, telling, memory, &mut recalled, run, is_same)? {
         if !step.is_known || is_reached(run.end, stretches.at) {
             stretches.table.pass_to(stretches.at);
             return Ok(Some(step));
         }
+        is_same = true;
     }
     Ok(None)
 }
@@ -231,7 +245,7 @@ fn is_reached(end: Option<Position>, at: Position) -> bool
 }
 
 // Steps to the next position at which the section's answer may end, or this run of the table does. `None` if neither ever ends: both
-// sides are exhausted.
+// sides are exhausted. Whether the table's answer is known to be the same as before is told: then it isn't compared.
 #[inline(always)]
 fn take_step<S: SpanSource, N: Runs<T::Said>, T: Telling>(
     stretches: &mut Stretches<S, N, T::Said>,
@@ -239,16 +253,19 @@ fn take_step<S: SpanSource, N: Runs<T::Said>, T: Telling>(
     memory: &mut T::Memory,
     recalled: &mut T::Recalled,
     run: Run<T::Said>,
+    is_same: bool,
 ) -> Result<Option<Step<T::Said>>, T::Refusal>
     requires sound { T.is_sound telling.now memory.old }
     requires recalled { IfSome run.answer (T.recalls telling.now recalled.old) }
     requires past { IsBefore stretches.old.at run.end }
+    requires same { IsTrue is_same → stretches.old.before.table ≡ run.answer }
     requires given { (from : spec_position.Position) × (by_section : spec_position.Position → Option T.Told)
         × (by_table : spec_position.Position → Option T.Told) × (given : List (Stretch T.Told))
         × HasGivenIn S.to_come N.is_at N.value_of run from (T.tell telling.now) T.said stretches.old by_section by_table given }
     ensures sound { OnOk result (T.is_sound telling.now memory.new) }
     ensures recalled { OnOk result (IfSome run.answer (T.recalls telling.now recalled.new)) }
     ensures table { OnOk result (stretches.new.table ≡ stretches.old.table) }
+    ensures before { IfOk result (λ found. IfSome found (λ _. stretches.new.before.table ≡ run.answer)) }
     ensures given { IfOk result (λ found. (from : spec_position.Position) (by_section by_table : spec_position.Position → Option T.Told)
         (given : List (Stretch T.Told))
         → HasGivenIn S.to_come N.is_at N.value_of run from (T.tell telling.now) T.said stretches.old by_section by_table given
@@ -265,13 +282,32 @@ fn take_step<S: SpanSource, N: Runs<T::Said>, T: Telling>(
         section: section.answer,
         table: run.answer,
     };
-    let is_known = is_known(telling, memory, recalled, both, stretches.before)?;
+    let is_known = is_known(telling, memory, recalled, both, stretches.before, is_same)?;
     stretches.section.pass_to(end);
     stretches.at = end;
     stretches.before = both;
     count_answered(&mut stretches.all, both.section, at, end);
     count_missed(&mut stretches.missed, both, at, end);
     Ok(Some(Step { at, both, is_known }))
+}
+
+// Whether a position is below another.
+#[inline(always)]
+fn is_below(at: Position, until: Position) -> bool
+    ensures { IsTrue result → IsBelow at until }
+{
+    at < until
+}
+
+// The end of a run, or another position if it has none.
+#[inline(always)]
+fn end_or(end: Option<Position>, other: Position) -> Position
+    ensures { (p : spec_position.Position) → IsBelow p result → IsBefore p end }
+{
+    match end {
+        Some(end) => end,
+        None => other,
+    }
 }
 
 // Adds the addresses from a position up to another, if a side answers there.
@@ -317,9 +353,11 @@ fn is_known<T: Telling>(
     recalled: &mut T::Recalled,
     both: Both<T::Said>,
     before: Both<T::Said>,
+    is_same: bool,
 ) -> Result<bool, T::Refusal>
     requires sound { T.is_sound telling.now memory.old }
     requires recalled { IfSome both.table (T.recalls telling.now recalled.old) }
+    requires same { IsTrue is_same → option_map T.said both.table ≡ option_map T.said before.table }
     ensures sound { OnOk result (T.is_sound telling.now memory.new) }
     ensures recalled { OnOk result (IfSome both.table (T.recalls telling.now recalled.new)) }
     ensures known { IfOk result (λ known. IsKnown known (option_map (T.tell telling.now) both.section) (option_map T.said both.table)
@@ -328,7 +366,7 @@ fn is_known<T: Telling>(
     if are_alike(telling, memory, recalled, both)? {
         return Ok(true);
     }
-    are_as_before(telling, memory, both, before)
+    are_as_before(telling, memory, both, before, is_same)
 }
 
 // Whether both answers are the same as before.
@@ -338,8 +376,10 @@ fn are_as_before<T: Telling>(
     memory: &mut T::Memory,
     both: Both<T::Said>,
     before: Both<T::Said>,
+    is_same: bool,
 ) -> Result<bool, T::Refusal>
-    requires { T.is_sound telling.now memory.old }
+    requires sound { T.is_sound telling.now memory.old }
+    requires same { IsTrue is_same → option_map T.said both.table ≡ option_map T.said before.table }
     ensures sound { OnOk result (T.is_sound telling.now memory.new) }
     ensures same { IfOk result (λ same. MatchBool same
         ((option_map (T.tell telling.now) both.section ≡ option_map (T.tell telling.now) before.section)
@@ -347,7 +387,7 @@ fn are_as_before<T: Telling>(
         (option_map (T.tell telling.now) both.section ≡ option_map (T.tell telling.now) before.section
         → option_map T.said both.table ≢ option_map T.said before.table)) }
 {
-    if !is_as_held(telling, both.table, before.table) {
+    if !is_as_held(telling, both.table, before.table, is_same) {
         return Ok(false);
     }
     is_as_before(telling, memory, both.section, before.section)
@@ -375,11 +415,20 @@ fn are_alike<T: Telling>(
     }
 }
 
-// Whether a table's answer is the same as before.
+// Whether a table's answer is the same as before. If that is known, it isn't compared.
 #[inline(always)]
-fn is_as_held<T: Telling>(telling: &T, one: Option<T::Said>, other: Option<T::Said>) -> bool
+fn is_as_held<T: Telling>(
+    telling: &T,
+    one: Option<T::Said>,
+    other: Option<T::Said>,
+    is_same: bool,
+) -> bool
+    requires { IsTrue is_same → option_map T.said one ≡ option_map T.said other }
     ensures { MatchBool result (option_map T.said one ≡ option_map T.said other) (option_map T.said one ≢ option_map T.said other) }
 {
+    if is_same {
+        return true;
+    }
     match (one, other) {
         (Some(one), Some(other)) => telling.same_said(one, other),
         (None, None) => true,

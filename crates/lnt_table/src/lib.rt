@@ -6,6 +6,17 @@
 //! tables that answer at a part of the positions; with [`differences_any`]
 //! for all positions at which the two answers differ; or with [`write_table`] and [`write_paths`] for the one shortest table
 //! of a section.
+//!
+//! Whether a table answers as a section does, each of at most 70 bytes:
+//!
+//! ```
+//! let mut section = Counted::new(section, 70);
+//! let mut table = Counted::new(table, 70);
+//! match check(alloc, &mut section, strings, &mut table, options)? {
+//!     Verdict::Yes => Ok(None),
+//!     Verdict::No(no) => Ok(Some(no)),
+//! }
+//! ```
 #![tactic(auto)]
 
 mod by_path;

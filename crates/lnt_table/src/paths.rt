@@ -36,6 +36,14 @@ impl<'i, 'a> Paths for IndexPaths<'i, 'a> {
             None => Ok(Vec::new(alloc)),
         }
     }
+
+    fn same_texts(&self, unit: u64, file: u64, other_unit: u64, other_file: u64) -> bool {
+        self.index.same_texts(unit, file, other_unit, other_file)
+    }
+
+    fn texts_number(&self, unit: u64, file: u64) -> u64 {
+        self.index.texts_number(unit, file)
+    }
 }
 
 /// Writes the table by path of the units that an index was made of, in this version, line by line, without a list of their

@@ -104,8 +104,15 @@ impl<'p, 'r, P: Paths> Telling for PathTelling<'p, 'r, P> {
         if answer.line != held.line || column_in(self.version, answer.column) != held.column {
             return Ok(false);
         }
-        let known = &mut memory.known;
-        has_told_path(self.alloc, self.paths, known, recalled, answer, held.path)
+        has_told_path(
+            self.alloc,
+            self.paths,
+            &mut memory.known,
+            &mut memory.fields,
+            recalled,
+            answer,
+            held.path,
+        )
     }
 
     fn same_said(&self, one: SaidPath<'r>, other: SaidPath<'r>) -> bool {

@@ -13,12 +13,12 @@ pub(crate) fn slot_of(number: u64) -> usize
     (number % SLOTS as u64) as usize
 }
 
-// Whether a file has a certain path.
+/// Whether a file has a certain path.
 #[derive(Clone, Copy)]
-pub(crate) struct ToldFile {
-    unit: u64,
-    file: u64,
-    same: bool,
+pub struct ToldFile {
+    pub unit: u64,
+    pub file: u64,
+    pub same: bool,
 }
 
 /// Whether some files have a certain path, one file in each slot, which the file number selects.
@@ -50,6 +50,14 @@ impl ToldFiles {
             }
         }
         None
+    }
+
+    /// What is remembered in the slot of the file, be it of another file.
+    pub fn in_slot(&self, file: u64) -> Option<ToldFile>
+        ensures { IfSome result (λ told. (path : ℕ → ℕ → List ℕ) (target : List ℕ) → AreTold path target self.now.slots
+            → MatchBool told.same (path told.unit told.file ≡ target) (path told.unit told.file ≢ target)) }
+    {
+        self.slots[slot_of(file)]
     }
 
     /// Remembers whether the file has the path.

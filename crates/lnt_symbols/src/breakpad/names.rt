@@ -60,4 +60,12 @@ impl<'a> Paths for Names<'a> {
         }
         Ok(path)
     }
+
+    fn same_texts(&self, _unit: u64, file: u64, _other_unit: u64, other_file: u64) -> bool {
+        file == other_file
+    }
+
+    fn texts_number(&self, _unit: u64, file: u64) -> u64 {
+        file
+    }
 }

@@ -1,6 +1,6 @@
 use Rattle.std.proofs.Common.{◌∙◌, inr, inl, subst, sym, true, option_map}
 use Rattle.lnt_spans.specs.Runs.{IsAheadAt, IsUpTo}
-use Rattle.lnt_spans.proofs.PositionLaws.{at_most_itself, below_is_at_most}
+use Rattle.lnt_spans.proofs.PositionLaws.{at_most_itself, at_most_trans, below_is_at_most}
 use Rattle.lnt_spans.proofs.RunLaws.{both_fewer}
 use Rattle.lnt_spans.proofs.SideLemmas.{side_on, side_run}
 use Rattle.lnt_spans.proofs.StretchLemmas.{both_move, ended_last, kept_last, nothing_from, other_last, step_answered, step_counted}
@@ -94,3 +94,26 @@ returns-clause-fewer g c =
     (c.pass_to.ensures.fewer own.at le (subst (IsUpTo end) c.run_at-table.ensures.end c.in-Some.ensures.1))
     (elim c.in-Some.ensures.2
     [ inl e ↦ inl (sym c.run_at-section.ensures.end ∙ e) | inr e ↦ inr (sym c.run_at-table.ensures.end ∙ e) ])
+
+pub are_as_before-requires-clause-same : goal.are_as_before-requires-clause-same
+are_as_before-requires-clause-same g c known =
+    let own = c.args.stretches.now in
+    let h = c.requires.given in
+    let table = c.run_at-table.result in
+    let run = side_run g.N.Runs.is_at g.N.Runs.value_of g.T.Telling.said own.table own.at h.1 table.answer table.end h.3.table
+    c.run_at-table.ensures.run in
+    let here = at_most_itself own.at in
+    sym (run.says own.at here run.past) ∙ h.4 own.at here (c.is_below-is_same.ensures known)
+
+pub returns-clause-until : goal.returns-clause-until
+returns-clause-until g c f f' told h stays p past below =
+    let own = c.args.stretches.now in
+    let section = c.run_at-section.result in
+    let table = c.run_at-table.result in
+    let said = g.T.Telling.said in
+    let moves = both_move g.S.SpanSource.to_come g.N.Runs.is_at g.N.Runs.value_of (g.T.Telling.tell c.args.telling.now) said own.section
+    own.table own.at c.in-Some.end f f' section.answer table.answer section.end table.end h.section h.table c.run_at-section.ensures.run
+    c.run_at-table.ensures.run c.in-Some.ensures in
+    let run = side_run g.N.Runs.is_at g.N.Runs.value_of said own.table own.at f' table.answer table.end h.table
+    c.run_at-table.ensures.run in
+    run.says p (at_most_trans (below_is_at_most moves.below) past) (c.end_or.ensures p below)

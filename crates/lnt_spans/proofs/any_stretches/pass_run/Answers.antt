@@ -46,6 +46,7 @@ loop-step-preserved g c =
       recalled = c.in_ok-step.ensures.recalled;
       past = c.if-is_reached.ensures told.table.valued.up_to;
       table = c.in_ok-step.ensures.table ∙ c.loop-step.invariant.table;
+      same = λ _. rw c.in-Some.is at c.in_ok-step.ensures.before;
       told = λ f f' told h. (rw (c.in-Some.is, c.if-not-step.false) at c.in_ok-step.ensures.given old.at f f' told
           (c.loop-step.invariant.told f f' told h)).0;
       fewer = omega (arith, fewer.0, c.loop-step.invariant.fewer);

@@ -1,4 +1,4 @@
-use Rattle.std.proofs.Common.{◌≡◌, ◌≤◌, List, Option, IfSome}
+use Rattle.std.proofs.Common.{◌≡◌, ◌≤◌, List, Option, IfSome, IsTrue}
 use Rattle.lnt_spans.specs.AnyStretches.{Stretch, Position}
 use Rattle.lnt_spans.specs.Runs.{IsBefore, runs_left}
 use Rattle.lnt_spans.specs.Stepping.{IsInRun}
@@ -11,6 +11,7 @@ invariant-loop-step g l = record {
   recalled : IfSome l.run.answer (g.T.Telling.recalls l.telling l.recalled);
   past : IsBefore l.stretches.at l.run.end;
   table : l.stretches.table ≡ l.fn.stretches.table;
+  same : IsTrue l.is_same → l.stretches.before.table ≡ l.run.answer;
   told : (by_section by_table : Position → Option g.T.Telling.Told) (told : List (Stretch g.T.Telling.Told))
       → HasGiven g.S.SpanSource.to_come g.N.Runs.is_at g.N.Runs.value_of (g.T.Telling.tell l.telling) g.T.Telling.said
       l.fn.stretches by_section by_table told

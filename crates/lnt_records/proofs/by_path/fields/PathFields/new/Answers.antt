@@ -1,6 +1,5 @@
-use Rattle.std.proofs.Common.{rules}
 use Rattle.lnt_records.specs.PathLines.{path_field}
 use Rattle.lnt_records.proofs.by_path.fields.PathFields.new.Goals as goal
 
 pub returns : goal.returns
-returns c path = record { texts = c.in_ok-texts.ensures (path_field path); pairs = search rules }
+returns c path = record { texts = c.in_ok-texts.ensures (path_field path); pairs = c.empty-alike.ensures path }

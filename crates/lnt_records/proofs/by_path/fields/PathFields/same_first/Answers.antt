@@ -1,5 +1,5 @@
 use Rattle.lnt_records.proofs.PathLineLaws.{same_paths}
-use Rattle.lnt_records.proofs.by_path.fields.PathFields.same_path.Goals as goal
+use Rattle.lnt_records.proofs.by_path.fields.PathFields.same_first.Goals as goal
 
 pub returns-clause-same : goal.returns-clause-same
 returns-clause-same g c =
@@ -9,6 +9,5 @@ returns-clause-same g c =
 pub returns-clause-kept : goal.returns-clause-kept
 returns-clause-kept g c =
     let path = g.P.Paths.bytes_of c.args.paths.now in
-    c.remember.ensures path
-    (c.keep_both.ensures path c.in_ok-second.ensures.kept c.in_ok-first.ensures.field.0 c.in_ok-second.ensures.field.0)
-    (returns-clause-same g c)
+    let kept = c.keep_both.ensures path c.in_ok-second.ensures.kept c.in_ok-first.ensures.field.0 c.in_ok-second.ensures.field.0 in
+    record { texts = kept.texts; pairs = c.remember-2.ensures path kept.pairs (returns-clause-same g c) }
