@@ -1,9 +1,11 @@
 -- Records, read line by line.
-use Rattle.std.proofs.Common.{◌≡◌, ℕ, ◌+◌, Bool, true, append_assoc, subst, sym, List, [], ◌∷◌, ◌++◌, length, refl, Option, Some, None}
-use Rattle.std.proofs.Common.{Ok, Err}
+use Rattle.std.proofs.Common.{◌≡◌, ◌∙◌, ℕ, ◌+◌, Bool, true, false, ap, append_assoc, subst, sym, List, [], ◌∷◌, ◌++◌, length, refl}
+use Rattle.std.proofs.Common.{Option, Some, None, Ok, Err}
 use Rattle.std.specs.Prelude.{Result, not, if◌then◌else◌}
 use Rattle.std.specs.Borrow.{Bor}
-use Rattle.lnt_symbols.specs.BreakpadLines.{record_of, RecordSaid, Said}
+use Rattle.lnt_symbols.specs.BreakpadLines.{lines_of, record_of, RecordSaid, Said}
+use Rattle.lnt_symbols.specs.Stepping.{SaysFirst}
+use Rattle.lnt_symbols.specs.declared.fault.LineReason.{LineReason}
 use Rattle.lnt_symbols.specs.declared.fault.LineReason.TheVariants.{NoFunction}
 use Rattle.lnt_symbols.specs.BreakpadAnswers.{is_inside, may_follow, records_from}
 use Rattle.lnt_symbols.specs.declared.fault.SymbolFault.{SymbolFault}
@@ -32,7 +34,7 @@ line_says n inside lines (Err reason) = Err (Line n reason)
 line_says n inside lines (Ok said) = if not (may_follow inside said) then Err (Line n NoFunction)
     else elim (records_from (n + 1) (is_inside inside said) lines) [ Err fault ↦ Err fault | Ok records ↦ Ok (said ∷ records) ]
 
-pub records_step : (done : List RecordSaid) (n : ℕ) (inside : Bool) (line : List ℕ) (lines : List (List ℕ)) (said : RecordSaid)
+records_step : (done : List RecordSaid) (n : ℕ) (inside : Bool) (line : List ℕ) (lines : List (List ℕ)) (said : RecordSaid)
     → record_of line ≡ Ok said → may_follow inside said ≡ true
     → joined done (records_from n inside (line ∷ lines)) ≡ joined (done ++ said ∷ []) (records_from (n + 1) (is_inside inside said) lines)
 records_step done n inside line lines said e m =
@@ -42,3 +44,30 @@ records_step done n inside line lines said e m =
     subst (λ (x : Said RecordSaid). joined done (line_says n inside lines x)
     ≡ joined (done ++ said ∷ []) (records_from (n + 1) (is_inside inside said) lines))
     (sym e) told
+
+-- ---- the first line of what is left
+
+pub first_step : (done : List RecordSaid) (n : ℕ) (inside : Bool) (text : List ℕ) (lines : List (List ℕ)) (said : RecordSaid)
+    → SaysFirst text (Ok said) lines → may_follow inside said ≡ true
+    → joined done (records_from n inside (lines_of text)) ≡ joined (done ++ said ∷ []) (records_from (n + 1) (is_inside inside said) lines)
+first_step done n inside text lines said s m =
+    ap (λ ls. joined done (records_from n inside ls)) s.joined ∙ records_step done n inside s.line lines said s.says m
+
+pub faulty : (done : List RecordSaid) (n : ℕ) (inside : Bool) (text : List ℕ) (lines : List (List ℕ)) (reason : LineReason)
+    → SaysFirst text (Err reason) lines → joined done (records_from n inside (lines_of text)) ≡ Err (Line n reason)
+faulty done n inside text lines reason s =
+    ap (λ ls. joined done (records_from n inside ls)) s.joined
+    ∙ subst (λ (x : Said RecordSaid). joined done (line_says n inside lines x) ≡ Err (Line n reason)) (sym s.says) refl
+
+refused_there : (done : List RecordSaid) (fault : SymbolFault) (b : Bool) (r : Result (List RecordSaid) SymbolFault) → b ≡ false
+    → joined done (if not b then Err fault else r) ≡ Err fault
+refused_there done fault b r e = rw e refl
+
+pub first_refused : (done : List RecordSaid) (n : ℕ) (inside : Bool) (text : List ℕ) (lines : List (List ℕ)) (said : RecordSaid)
+    → SaysFirst text (Ok said) lines → may_follow inside said ≡ false
+    → joined done (records_from n inside (lines_of text)) ≡ Err (Line n NoFunction)
+first_refused done n inside text lines said s m =
+    let told : joined done (line_says n inside lines (Ok said)) ≡ Err (Line n NoFunction)
+    = refused_there done (Line n NoFunction) (may_follow inside said) _ m in
+    ap (λ ls. joined done (records_from n inside ls)) s.joined
+    ∙ subst (λ (x : Said RecordSaid). joined done (line_says n inside lines x) ≡ Err (Line n NoFunction)) (sym s.says) told

@@ -3,4 +3,5 @@ pub mod FieldLemmas
 pub mod FileLemmas
 pub mod KeptLemmas
 pub mod PieceLemmas
+pub mod PlainLemmas
 pub mod TreeLemmas

@@ -1,10 +1,13 @@
 -- What the values of the code say.
-use Rattle.std.specs.Prelude.{◌≡◌, ◌+◌, ◌-◌, ◌<◌, ◌≤◌, ℕ, List, [], Option, Some, None, Err, IsSome, Contains, drop, map}
+use Rattle.std.specs.Prelude.{◌≡◌, ◌+◌, ◌-◌, ◌*◌, ◌<◌, ◌≤◌, ◌==◌, nat_lt, ℕ, Bool, true, if◌then◌else◌, List, [], ◌∷◌, ◌++◌, length, Option}
+use Rattle.std.specs.Prelude.{Some, None, Ok, Err, IsSome, Contains, drop, map}
 use Rattle.std.specs.BTreeMap.{BTreeMap, get}
-use Rattle.std.specs.List.{AllByRecursion}
+use Rattle.std.specs.List.{AllByRecursion, list_all}
 use Rattle.std.specs.Ordering.{nat_cmp}
 use Rattle.std.specs.Borrow.{Bor}
-use Rattle.lnt_symbols.specs.BreakpadLines.{lines_of, Range, RecordSaid, file_said, function_said, line_said, public_said, nothing_said}
+use Rattle.lnt_text.specs.Digits.{digit_value}
+use Rattle.lnt_symbols.specs.BreakpadLines.{is_hexadecimal_digit, LineRecord, lines_of, Range, record_of, RecordSaid, Said}
+use Rattle.lnt_symbols.specs.BreakpadLines.{file_said, function_said, line_said, public_said, nothing_said}
 use Rattle.lnt_symbols.specs.BreakpadAnswers.{end_of, FunctionSaid, lines_before, records_of}
 use Rattle.lnt_symbols.specs.declared.breakpad.file.RecordsStop.{RecordsStop}
 use Rattle.lnt_symbols.specs.declared.breakpad.file.RecordsStop.TheVariants.{Fault, Memory}
@@ -71,3 +74,30 @@ name_or names number rest = known_or (get nat_cmp names number) rest
 -- the name with a number, or nothing
 abbrev pub name_at : BTreeMap ℕ (Bor (List ℕ)) → ℕ → List ℕ
 name_at names number = name_or names number []
+
+-- ---- the first line of a text
+
+-- The first line says this, and these lines follow.
+pub record SaysFirst (text : List ℕ) (said : Said RecordSaid) (lines : List (List ℕ)) : Type 0 where
+  pub line : List ℕ
+  pub joined : lines_of text ≡ line ∷ lines
+  pub says : record_of line ≡ said
+
+-- The first line is a line record that says this, with an end, and the rest follows.
+pub record IsFirstLine (text : List ℕ) (said : LineRecord) (rest : List ℕ) : Type 0 where
+  pub says : SaysFirst text (Ok (line_said said)) (lines_of rest)
+  pub shorter : length rest < length text
+
+-- The text begins with digits of a number, and then come a byte and the rest.
+pub record HasNumber (number : List ℕ → Said ℕ) (stop : ℕ) (text : List ℕ) (n : ℕ) (rest : List ℕ) : Type 0 where
+  pub digits : List ℕ
+  pub joined : text ≡ digits ++ stop ∷ rest
+  pub all : list_all is_hexadecimal_digit digits ≡ true
+  pub value : number digits ≡ Ok n
+
+-- The number with up to `left` digits, which stand before a byte, after those of `value`; and what stands after that byte.
+abbrev pub number_up_to : ℕ → (ℕ → Bool) → ℕ → ℕ → ℕ → List ℕ → Option (ℕ × List ℕ)
+number_up_to radix is_digit stop left value [] = None
+number_up_to radix is_digit stop left value (c ∷ text) =
+    if is_digit c then (if nat_lt 0 left then number_up_to radix is_digit stop (left - 1) (value * radix + digit_value c) text else None)
+    else if c == stop then Some (value, text) else None

@@ -7,6 +7,7 @@ mod kept;
 mod line;
 mod names;
 mod pieces;
+mod plain;
 mod print;
 mod range;
 mod record;

@@ -22,7 +22,7 @@ pub(crate) fn cut<'a>(text: &'a [u8]) -> Option<(&'a [u8], &'a [u8])>
 
 // The value of a digit of either kind.
 #[inline(always)]
-fn value_of(byte: u8) -> u64
+pub(crate) fn value_of(byte: u8) -> u64
     ensures value { result ≡ digit_value byte }
     ensures decimal { IsTrue (is_decimal_digit byte) → result < 10 }
     ensures hexadecimal { IsTrue (is_hexadecimal_digit byte) → result < 16 }
@@ -38,7 +38,7 @@ fn value_of(byte: u8) -> u64
 
 // Whether a byte is a decimal digit.
 #[inline(always)]
-fn is_decimal_digit(byte: u8) -> bool
+pub(crate) fn is_decimal_digit(byte: u8) -> bool
     ensures { result ≡ is_decimal_digit byte }
 {
     47 < byte && byte < 58
@@ -46,10 +46,10 @@ fn is_decimal_digit(byte: u8) -> bool
 
 // Whether a byte is a hexadecimal digit of either case.
 #[inline(always)]
-fn is_hexadecimal_digit(byte: u8) -> bool
+pub(crate) fn is_hexadecimal_digit(byte: u8) -> bool
     ensures { result ≡ is_hexadecimal_digit byte }
 {
-    is_decimal_digit(byte) || (64 < byte && byte < 71) || (96 < byte && byte < 103)
+    is_decimal_digit(byte) | (64 < byte && byte < 71) | (96 < byte && byte < 103)
 }
 
 // Whether all bytes are decimal digits, and there is one.

@@ -1,12 +1,13 @@
 //! Reads the records of a Breakpad file.
-ghost use Rattle.std.specs.Prelude.{◌≡◌, ◌<◌, ◌≤◌, [], ◌∷◌, ◌++◌, true, length, map, Ok, Err, IfOk, IfErr, IfSome};
-ghost use Rattle.lnt_symbols.specs.Stepping.{IsStop, lines_left, said_of};
+ghost use Rattle.std.specs.Prelude.{◌≡◌, ◌<◌, ◌≤◌, ℕ, List, [], ◌∷◌, ◌++◌, true, length, map, Ok, Err, IfOk, IfErr, IfSome, MatchResult};
+ghost use Rattle.lnt_symbols.specs.Stepping.{IsStop, SaysFirst, lines_left, said_of};
 ghost use Rattle.lnt_symbols.specs.BreakpadLines.{lines_from, lines_of};
 ghost use Rattle.lnt_symbols.specs.declared.breakpad.file.RecordsStop.TheVariants.{Fault};
 ghost use Rattle.lnt_symbols.specs.declared.fault.SymbolFault.TheVariants.{Line};
 ghost use Rattle.lnt_symbols.specs.BreakpadAnswers.{is_inside, may_follow, records_of};
 
 use crate::breakpad::line::{has_zero, record_of};
+use crate::breakpad::plain::plain_line;
 use crate::breakpad::record::Record;
 use crate::fault::{LineReason, SymbolFault};
 use std::alloc::Global;
@@ -21,7 +22,7 @@ pub(crate) enum RecordsStop {
 }
 
 // Reads the records of a file, but for its first line.
-#[tactic(auto, using(crate::proofs::FileLemmas::records_step))]
+#[tactic(auto, using(crate::proofs::FileLemmas::first_step, crate::proofs::FileLemmas::faulty, crate::proofs::FileLemmas::first_refused))]
 pub(crate) fn read_records<'a>(
     alloc: Global,
     bytes: &'a [u8],
@@ -40,10 +41,9 @@ pub(crate) fn read_records<'a>(
     let mut number = 1;
     let mut inside = false;
     while let Some(left) = rest {
-        let (line, after) = next_line(left);
         number += 1;
-        let record = match record_of(line) {
-            Ok(record) => record,
+        let (record, after) = match next_record(left) {
+            Ok(found) => found,
             Err(reason) => return Err(fault_in(number, reason)),
         };
         if !may_follow(inside, &record) {
@@ -56,6 +56,31 @@ pub(crate) fn read_records<'a>(
         rest = after;
     }
     Ok(records)
+}
+
+// What the first line says, and what stands after its end, if it has one.
+#[inline(always)]
+fn next_record<'a>(bytes: &'a [u8]) -> Result<(Record<'a>, Option<&'a [u8]>), LineReason>
+    ensures said { MatchResult result (λ f. SaysFirst bytes.now (Ok (said_of f.0)) (lines_left f.1))
+        (λ reason. (lines : List (List ℕ)) × SaysFirst bytes.now (Err reason) lines) }
+    ensures shorter { IfOk result (λ f. IfSome f.1 (λ rest. length rest.now < length bytes.now)) }
+{
+    if let Some((line, rest)) = plain_line(bytes) {
+        return Ok((Record::Line(line), Some(rest)));
+    }
+    any_record(bytes)
+}
+
+// The same, whatever stands in the line.
+#[inline(never)]
+fn any_record<'a>(bytes: &'a [u8]) -> Result<(Record<'a>, Option<&'a [u8]>), LineReason>
+    ensures said { MatchResult result (λ f. SaysFirst bytes.now (Ok (said_of f.0)) (lines_left f.1))
+        (λ reason. (lines : List (List ℕ)) × SaysFirst bytes.now (Err reason) lines) }
+    ensures shorter { IfOk result (λ f. IfSome f.1 (λ rest. length rest.now < length bytes.now)) }
+{
+    let (line, rest) = next_line(bytes);
+    let record = record_of(line)?;
+    Ok((record, rest))
 }
 
 // The first line, and what stands after its end, if it has one.
