@@ -1,3 +1,4 @@
+pub mod CauseLemmas
 pub mod QuestionLemmas
 pub mod ReadingLemmas
 pub mod RefusedLemmas

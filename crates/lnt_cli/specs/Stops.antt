@@ -1,6 +1,9 @@
 -- How a run was stopped, and the files that a request names.
-use Rattle.std.specs.Prelude.{◌≡◌, ◌≢◌, ◌⊎◌, ℕ, IfSome, IsErrAnd, List, Option, Result, Some, string_bytes, option_copied, false}
-use Rattle.lnt_io.specs.Files.{FileState, Readable, RefusesOnly}
+use Rattle.std.specs.Prelude.{◌≡◌, ◌≢◌, ◌⊎◌, ◌+◌, ◌<◌, ℕ, IfSome, IsErrAnd, IsTrue, List, Option, Result, Some, string_bytes}
+use Rattle.std.specs.Prelude.{option_copied, false}
+use Rattle.lnt_io.specs.Files.{FileState, IsTooLongFile, Readable, RefusesOnly}
+use Rattle.lnt_io.specs.Stopping.{IsFoundTooLong}
+use Rattle.lnt_io.specs.declared.source.Source.{Ghosts}
 use Rattle.lnt_io.specs.declared.io_stop.IoStop.{IoStop}
 use Rattle.lnt_io.specs.declared.io_stop.IoStop.TheVariants as io_stop
 use Rattle.lnt_words.specs.declared.request.FileQuestion.{FileQuestion}
@@ -72,6 +75,30 @@ IsFileIn (Symbols file base) name = file.now ≡ name
 IsFileIn (Judge from question) name = IsFileOf from name
 IsFileIn (JudgeWith from file question) name = IsFileOfBoth from file.now name
 
+-- ---- files that are too long
+
+-- a file that the stop tells as too long is such
+abbrev pub TellsLong : (List ℕ → Type 0) → FileStop → Type 0
+TellsLong IsLong (TooLong file) = IsLong (string_bytes file)
+TellsLong IsLong _ = Unit {0}
+
+-- One of these files has more than 2^40 bytes, if its bytes are known.
+pub record IsOneTooLong (finds : List ℕ → FileState → Type 0) (AreThese : List ℕ → Type 0) : Type 0 where
+  pub name : List ℕ
+  pub is_one : AreThese name
+  pub is_long : IsTooLongFile (finds name)
+
+-- The file with this name has more than 2^40 bytes, if its bytes are known; for a check without --all, one of its files has. Of the
+-- other file of a check with --all, and of one of addresses, nothing is said.
+abbrev pub IsLongWith : (List ℕ → FileState → Type 0) → Judging → List ℕ → FileQuestion → List ℕ → Type 0
+IsLongWith finds from file (Check false ends partial at_least) name = IsOneTooLong finds (IsFileOfBoth from file)
+IsLongWith finds from file question name = (file ≡ name) ⊎ IsTooLongFile (finds name)
+
+-- the same of a file that a stop of this request tells as too long
+abbrev pub IsLongIn : (List ℕ → FileState → Type 0) → Request → List ℕ → Type 0
+IsLongIn finds (JudgeWith from file question) name = IsLongWith finds from file.now question name
+IsLongIn finds _ name = IsTooLongFile (finds name)
+
 -- ---- files that the opener refused
 
 -- the stop says that the file with this name can't be read
@@ -112,6 +139,30 @@ abbrev pub IsOfCause : (List ℕ → Type 0) → (List ℕ → Type 0) → FileS
 IsOfCause HasFailed IsLong (Read file) = HasFailed (string_bytes file)
 IsOfCause HasFailed IsLong (TooLong file) = IsLong (string_bytes file)
 IsOfCause HasFailed IsLong _ = Unit {0}
+
+-- The stop names the source's file (name) for a read of the source that failed, or since it was found too long. The source was
+-- before the work (old) and is after it (new).
+abbrev pub IsCausedBy : {R : Type 0} → Ghosts R → R → R → List ℕ → FileStop → Type 0
+IsCausedBy source old new name stop = IsOfCause
+    (λ file. (name ≡ file) × (source.failures new ≡ source.failures old + 1))
+    (λ file. (name ≡ file) × IsFoundTooLong (source.too_long new) (source.remaining old) (source.left old)) stop
+
+-- the same of the work on one source and then on another one, of which it isn't said that it was found too long
+abbrev pub IsCausedByEither : {R T : Type 0} → Ghosts R → R → R → List ℕ → Ghosts T → T → T → List ℕ → FileStop → Type 0
+IsCausedByEither first old new name second was is other stop = IsOfCause
+    (λ file. ((name ≡ file) × (first.failures new ≡ first.failures old + 1))
+    ⊎ ((other ≡ file) × (second.failures is ≡ second.failures was + 1)))
+    (λ file. ((name ≡ file) × IsFoundTooLong (first.too_long new) (first.remaining old) (first.left old))
+    ⊎ (other ≡ file)) stop
+
+-- The same of a check, whose two sources hadn't failed before. The file that is told as too long is that of a source that was found so,
+-- and one of both has more bytes than it may give.
+abbrev pub IsCausedInCheck : {R T : Type 0} → Ghosts R → R → R → List ℕ → Ghosts T → T → T → List ℕ → FileStop → Type 0
+IsCausedInCheck first old new name second was is other stop = IsOfCause
+    (λ file. ((file ≡ name) × (0 < first.failures new)) ⊎ ((file ≡ other) × (0 < second.failures is)))
+    (λ file. (((file ≡ name) × IsTrue (first.too_long new)) ⊎ ((file ≡ other) × IsTrue (second.too_long is)))
+    × (IsFoundTooLong (first.too_long new) (first.remaining old) (first.left old)
+    ⊎ IsFoundTooLong (second.too_long is) (second.remaining was) (second.left was))) stop
 
 -- ---- what was written if the answer to a request was stopped: nothing, or a prefix of an answer
 --     tells       what the opener may say of the file with a name, as the run begins

@@ -2,7 +2,7 @@
 ghost use Rattle.std.specs.Prelude.{◌≡◌, ◌<◌, ◌⊎◌, IfErr, IfOk, IfSome, IsTrue, OnErr};
 ghost use Rattle.std.specs.Io.KnownBytes.{Keeps};
 ghost use Rattle.lnt_cli.specs.Answered.{IsChecked, options_in};
-ghost use Rattle.lnt_cli.specs.Stops.{BeginsChecked, IsFileOfBoth, IsOfCause, NamesOneOf};
+ghost use Rattle.lnt_cli.specs.Stops.{BeginsChecked, IsCausedInCheck, IsFileOfBoth, NamesOneOf};
 ghost use Rattle.lnt_table.specs.AnyVersion.{IsOfScope, IsTrueOfSectionWithin, IsTrueWithin};
 
 use crate::inputs::{Opened, of_file};
@@ -36,6 +36,8 @@ pub(crate) fn check_table<'t, S: Source, F: Source, W: Write>(
     ensures stopped { OnErr result (Keeps (W.contents out.old) (W.contents out.new)
         ⊎ BeginsChecked from.now scope at_least (W.contents out.old) (W.contents out.new)
         (F.remaining other.old) files.old.texts.line.items files.old.texts.general.items (S.remaining files.old.section)) }
+    ensures cause { IfErr result (IsCausedInCheck ⟦<S as Source>⟧ files.old.section files.new.section from.now.section.now
+        ⟦<F as Source>⟧ other.old other.new table.now) }
 {
     let checked = judge_table(alloc, from, table, scope, files, other)?;
     let name = String::from_str(alloc, table)?;
@@ -61,11 +63,8 @@ fn judge_table<S: Source, F: Source>(
     ensures of_section { IfOk result (λ checked. IfSome (S.remaining files.old.section) (λ bytes.
         IsTrueOfSectionWithin files.old.texts.line.items files.old.texts.general.items (options_in from.now) bytes checked)) }
     ensures of_scope { IfOk result (λ checked. IsOfScope checked scope) }
-    ensures cause { IfErr result (IsOfCause
-        (λ name. ((name ≡ from.now.section.now) × (0 < S.failures files.new.section))
-        ⊎ ((name ≡ table.now) × (0 < F.failures other.new)))
-        (λ name. ((name ≡ from.now.section.now) × IsTrue (S.too_long files.new.section))
-        ⊎ ((name ≡ table.now) × IsTrue (F.too_long other.new)))) }
+    ensures cause { IfErr result (IsCausedInCheck ⟦<S as Source>⟧ files.old.section files.new.section from.now.section.now
+        ⟦<F as Source>⟧ other.old other.new table.now) }
 {
     let strings = files.texts.strings();
     match check_within(

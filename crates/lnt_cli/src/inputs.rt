@@ -1,8 +1,9 @@
 //! The files that a run reads.
-ghost use Rattle.std.specs.Prelude.{◌≡◌, IfErr, IfOk, IsErr, IsErrOf, Ok, OnErr, Some, option_map, string_bytes, option_copied};
-ghost use Rattle.lnt_io.specs.Files.{AreBytesOf, Readable, RefusesOnly, FindsNoMore};
+ghost use Rattle.std.specs.Prelude.{◌≡◌, ◌^◌, IfErr, IfOk, IsErr, IsErrOf, Ok, OnErr, Some, option_map, string_bytes, option_copied};
+ghost use Rattle.lnt_io.specs.Files.{AreBytesOf, FindsNoMore, IsTooLongFile, Readable, RefusesOnly};
+ghost use Rattle.lnt_io.specs.IoStops.{IsOpening};
 ghost use Rattle.lnt_cli.specs.Answered.{AreStringsOf, AreTextsOf, IsTextOf};
-ghost use Rattle.lnt_cli.specs.Stops.{IsFileOf, IsFileStop, NamesOneOf, StopsIfRefused};
+ghost use Rattle.lnt_cli.specs.Stops.{IsFileOf, IsFileStop, NamesOneOf, StopsIfRefused, TellsLong};
 
 use crate::stop::FileStop;
 use lnt_io::{Counted, Files, IoStop, Source, bytes_of_file, open_file, read_all, source_of};
@@ -60,9 +61,11 @@ pub(crate) fn open_section<'c, O: Files>(
     seen: &'c Cell<Seen>,
 ) -> Result<Section<'c, O::Reader>, IoStop>
     ensures failures { IfOk result (λ source. ⟦<Section<'c, O::Reader> as Source>⟧.failures source ≡ 0) }
+    ensures left { IfOk result (λ source. ⟦<Section<'c, O::Reader> as Source>⟧.left source ≡ 2 ^ 40) }
     ensures found { IfOk result (λ source. O.finds opener.old name.now (Readable (⟦<Section<'c, O::Reader> as Source>⟧.remaining source))) }
     ensures later { FindsNoMore (O.finds opener.old) (O.finds opener.new) }
     ensures refused { RefusesOnly (λ other. IsErrOf result IoStop.Read × (name.now ≡ other)) (O.refused opener.old) (O.refused opener.new) }
+    ensures err { IfErr result IsOpening }
 {
     match opener.reader_of(name) {
         Some(reader) => Ok(source_of(alloc, WatchedReader::new(reader, seen))?),
@@ -88,10 +91,12 @@ pub(crate) fn open_judged<'c, O: Files>(
     ensures texts { IfOk result (λ opened.
         AreTextsOf (O.finds opener.old) from.now opened.texts.line.items opened.texts.general.items) }
     ensures failures { IfOk result (λ opened. ⟦<Section<'c, O::Reader> as Source>⟧.failures opened.section ≡ 0) }
+    ensures left { IfOk result (λ opened. ⟦<Section<'c, O::Reader> as Source>⟧.left opened.section ≡ 2 ^ 40) }
     ensures found { IfOk result (λ opened. O.finds opener.old from.now.section.now
         (Readable (⟦<Section<'c, O::Reader> as Source>⟧.remaining opened.section))) }
     ensures later { FindsNoMore (O.finds opener.old) (O.finds opener.new) }
     ensures refused { StopsIfRefused result (O.refused opener.old) (O.refused opener.new) }
+    ensures too_long { IfErr result (TellsLong (λ name. IsTooLongFile (O.finds opener.old name))) }
 {
     let line = read_strings(alloc, opener, from.line_strings)?;
     let general = read_strings(alloc, opener, from.strings)?;
@@ -110,9 +115,11 @@ pub(crate) fn open_other<O: Files>(
 ) -> Result<Blocks<O::Reader>, FileStop>
     ensures named { IfErr result (NamesOneOf (λ other. file.now ≡ other)) }
     ensures fails { IfOk result (λ opened. ⟦<Blocks<O::Reader> as Source>⟧.failures opened ≡ 0) }
+    ensures left { IfOk result (λ opened. ⟦<Blocks<O::Reader> as Source>⟧.left opened ≡ 2 ^ 40) }
     ensures found { IfOk result (λ opened.
         O.finds opener.old file.now (Readable (⟦<Blocks<O::Reader> as Source>⟧.remaining opened))) }
     ensures refused { StopsIfRefused result (O.refused opener.old) (O.refused opener.new) }
+    ensures too_long { IfErr result (TellsLong (λ name. IsTooLongFile (O.finds opener.old name))) }
 {
     let name = String::from_str(alloc, file)?;
     let opened = open_file(alloc, opener, file);
@@ -129,6 +136,7 @@ pub(crate) fn read_whole<O: Files>(
     ensures bytes { IfOk result (λ bytes. AreBytesOf (O.finds opener.old name.now) bytes.items) }
     ensures later { FindsNoMore (O.finds opener.old) (O.finds opener.new) }
     ensures refused { RefusesOnly (λ other. IsErrOf result IoStop.Read × (name.now ≡ other)) (O.refused opener.old) (O.refused opener.new) }
+    ensures too_long { IsErrOf result IoStop.TooLong → IsTooLongFile (O.finds opener.old name.now) }
 {
     let mut source = open_section(alloc, opener, name, seen)?;
     Ok(read_all(alloc, &mut source)?)
@@ -144,6 +152,7 @@ pub(crate) fn read_named<O: Files>(
     ensures text { IfOk result (λ text.
         IsTextOf (O.finds opener.old) (option_copied file.entry) (option_map (λ bytes. bytes.items) text)) }
     ensures refused { StopsIfRefused result (O.refused opener.old) (O.refused opener.new) }
+    ensures too_long { IfErr result (TellsLong (λ name. IsTooLongFile (O.finds opener.old name))) }
 {
     match file {
         Some(name) => Ok(Some(read_file(alloc, opener, name)?)),
@@ -161,6 +170,7 @@ fn read_strings<O: Files>(
     ensures strings { IfOk result (λ bytes. AreStringsOf (O.finds opener.old) (option_copied file.entry) bytes.items) }
     ensures later { FindsNoMore (O.finds opener.old) (O.finds opener.new) }
     ensures refused { StopsIfRefused result (O.refused opener.old) (O.refused opener.new) }
+    ensures too_long { IfErr result (TellsLong (λ name. IsTooLongFile (O.finds opener.old name))) }
 {
     match file {
         Some(name) => read_file(alloc, opener, name),
@@ -174,6 +184,7 @@ fn read_file<O: Files>(alloc: Global, opener: &mut O, name: &str) -> Result<Vec<
     ensures bytes { IfOk result (λ bytes. AreBytesOf (O.finds opener.old name.now) bytes.items) }
     ensures later { FindsNoMore (O.finds opener.old) (O.finds opener.new) }
     ensures refused { StopsIfRefused result (O.refused opener.old) (O.refused opener.new) }
+    ensures too_long { IfErr result (TellsLong (λ name. IsTooLongFile (O.finds opener.old name))) }
 {
     let copy = String::from_str(alloc, name)?;
     of_file(copy, bytes_of_file(alloc, opener, name))

@@ -3,6 +3,19 @@
 //! [`Opener`] and the writers.
 //!
 //! Start with [`run`], with [`run_with_notes`], or with [`answer`] for a request that was read already.
+//!
+//! The command over an opener of your own:
+//!
+//! ```
+//! pub fn ran<O: Opener, W: Write>(
+//!     alloc: Global,
+//!     words: Vec<String>,
+//!     opener: &mut O,
+//!     out: &mut W,
+//! ) -> Result<Status, CliStop> {
+//!     run(alloc, words, opener, out)
+//! }
+//! ```
 #![tactic(auto)]
 
 mod check;
@@ -12,7 +25,6 @@ mod program;
 mod question;
 mod reading;
 mod stop;
-mod symbols;
 
 // Running the command.
 pub use program::{run, run_with_notes};

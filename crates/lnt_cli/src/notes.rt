@@ -2,15 +2,16 @@
 ghost use Rattle.std.specs.Prelude.{◌≡◌};
 ghost use Rattle.lnt_answers.specs.Stretches.{outcome_status};
 ghost use Rattle.lnt_answers.specs.Verdicts.{checked_status};
+ghost use Rattle.lnt_notes.specs.Notes.{TellsNotes, WritesNotes};
 
 use crate::stop::FileStop;
 use lnt_answers::{Stretches, status_of};
 use lnt_compare::Compared;
-use lnt_io::{Files, Status};
+use lnt_io::{Files, IoStop, Status};
 use lnt_lines::No;
 use lnt_notes::{
     Columns, Given, Hints, Seen, note_agreed, note_bad, note_good, note_no_symbols, note_refused,
-    note_table, print_note,
+    note_table, print_line_of, print_note,
 };
 use lnt_records::TableFault;
 use lnt_table::{CheckedWithin, OfKind, Scope, TableNo, Verdict};
@@ -142,18 +143,23 @@ pub(crate) fn print_notes<O: Files, N: Write>(
     seen: &Seen,
     opener: &O,
     notes: &mut N,
-) {
+)
+    ensures { WritesNotes (N.contents notes.old) (N.contents notes.new) }
+{
     match ended {
-        Ok(answered) => note_answer(alloc, request, answered, seen, opener, notes),
+        Ok(answered) => {
+            let _ = note_answer(alloc, request, answered, seen, opener, notes);
+        }
         Err(FileStop::Read(_)) => {
             if let Some(reason) = opener.reason(alloc) {
-                let _ = writeln!(notes, "linetab: note: {reason}");
+                let _ = print_line_of(alloc, &reason, notes);
             }
         }
         Err(_) => {}
     }
 }
 
+// Writes the notes to an answer.
 fn note_answer<O: Files, N: Write>(
     alloc: Global,
     request: &Request<'_>,
@@ -161,24 +167,43 @@ fn note_answer<O: Files, N: Write>(
     seen: &Seen,
     opener: &O,
     notes: &mut N,
-) {
-    let given = match request {
-        Request::Help(_) => return,
+) -> Result<(), IoStop>
+    ensures { TellsNotes result (N.contents notes.old) (N.contents notes.new) }
+{
+    let is_no = answered.status == Status::No;
+    match request {
+        Request::Help(_) => Ok(()),
         Request::Read { order, .. } | Request::Upgrade(Upgrading { order, .. }) => {
-            if answered.status == Status::No {
-                let _ = note_refused(seen, *order, notes);
+            if is_no {
+                return note_refused(alloc, seen, *order, notes);
             }
-            return;
+            Ok(())
         }
         Request::Symbols { .. } => {
-            if answered.status == Status::No {
-                let _ = note_no_symbols(seen, notes);
+            if is_no {
+                return note_no_symbols(alloc, seen, notes);
             }
-            return;
+            Ok(())
         }
-        Request::Judge { from, .. } | Request::JudgeWith { from, .. } => given_of(from),
-    };
-    let _ = match answered.occasion {
+        Request::Judge { from, .. } | Request::JudgeWith { from, .. } => {
+            note_judged(alloc, from, answered, seen, opener, notes)
+        }
+    }
+}
+
+// Writes the notes to an answer about a section that was judged.
+fn note_judged<O: Files, N: Write>(
+    alloc: Global,
+    from: &Judging<'_>,
+    answered: &Answered<'_>,
+    seen: &Seen,
+    opener: &O,
+    notes: &mut N,
+) -> Result<(), IoStop>
+    ensures { TellsNotes result (N.contents notes.old) (N.contents notes.new) }
+{
+    let given = given_of(from);
+    match answered.occasion {
         Occasion::Good(hints) => note_good(alloc, &hints, &given, opener, notes),
         Occasion::Bad(no) => note_bad(alloc, &no, seen, &given, opener, notes),
         Occasion::Compared(table) if answered.status == Status::Done => {
@@ -191,17 +216,19 @@ fn note_answer<O: Files, N: Write>(
         Occasion::Faulty(table, fault, columns) => {
             note_table(alloc, fault, columns, table, opener, notes)
         }
-    };
+    }
 }
 
 // Writes a note that says what a bad word has to be, unless notes are left out.
-pub(crate) fn note_word<N: Write>(stop: &WordsStop, notes: &mut N) {
+pub(crate) fn note_word<N: Write>(alloc: Global, stop: &WordsStop, notes: &mut N)
+    ensures { WritesNotes (N.contents notes.old) (N.contents notes.new) }
+{
     if let WordsStop::BadWord {
         argument,
         quiet: false,
         ..
     } = stop
     {
-        let _ = print_note(Note::Word(*argument), notes);
+        let _ = print_note(alloc, Note::Word(*argument), notes);
     }
 }

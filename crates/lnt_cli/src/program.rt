@@ -1,15 +1,15 @@
 //! One run of the command.
-ghost use Rattle.std.specs.Prelude.{map, string_bytes, IfErr, IfOk, OnErr};
+ghost use Rattle.std.specs.Prelude.{◌≡◌, map, string_bytes, IfErr, IfOk, IsTrue, OnErr};
 ghost use Rattle.lnt_io.specs.Files.{RefusesOnly};
+ghost use Rattle.lnt_notes.specs.Notes.{WritesNotes};
 ghost use Rattle.lnt_cli.specs.Answered.{IsAnswered};
 ghost use Rattle.lnt_cli.specs.Runs.{AnswersWords, IsStopOf, NameUnreadable};
-ghost use Rattle.lnt_cli.specs.Stops.{IsStopped, IsFileIn, IsNamedUnreadable, NamesOneOf};
+ghost use Rattle.lnt_cli.specs.Stops.{IsFileIn, IsLongIn, IsNamedUnreadable, IsStopped, NamesOneOf, TellsLong};
 
 use crate::notes::{Answered, note_word, print_notes};
 use crate::question::{answer_file, answer_question};
-use crate::reading::{read_section, upgrade_section};
+use crate::reading::{Printing, answer_printing, upgrade_section};
 use crate::stop::{CliStop, FileStop};
-use crate::symbols::read_symbols;
 use lnt_io::{Files, Status, write_whole};
 use lnt_notes::Seen;
 use lnt_words::{Asked, Request, request_of};
@@ -40,12 +40,14 @@ pub fn run<O: Files, W: Write>(
 /// flushed, except after each answered block of lines of a file of addresses.
 ///
 /// A run stops with `Usage` only if the words ask for nothing (`AskForNothing`), before a file is opened and with nothing
-/// written; with `Read` or `TooLong` for a file that the words name (`NameFile`); with `Write` if `out` failed, after a prefix
-/// of the text; and with `Memory` (`IsStopOf`). What [`answer`] states was written if it stops. If the opener refuses a file, it
-/// stops with `Read` and that file's name, and for no other reason (`NameUnreadable`), except once it judges listed sums.
+/// written; with `Read` or `TooLong` for a file that the words name (`NameFile`), with `TooLong` only for one of more than 2^40 bytes
+/// as far as `IsLongIn` says; with `Write` if `out` failed, after a prefix of the text; and with `Memory` (`IsStopOf`). What
+/// [`answer`] states was written if it stops. If the opener refuses a file, it stops with `Read` and that file's name, and for no
+/// other reason (`NameUnreadable`), except once it judges listed sums.
 ///
-/// Advice for a person is written to `notes`, a line for each note, to be shown after the answer; nothing if the words ask for
-/// no notes. A run doesn't stop if `notes` fails.
+/// Advice for a person is written to `notes`, to be shown after the answer: a line for each note, which begins with `linetab: note: `
+/// and has no other line feed, and nothing else (`WritesNotes`). It is nothing if the words ask for no notes. A run doesn't stop if
+/// `notes` fails; then the last line may be cut.
 pub fn run_with_notes<O: Files, W: Write, N: Write>(
     alloc: Global,
     words: Vec<String>,
@@ -59,18 +61,19 @@ pub fn run_with_notes<O: Files, W: Write, N: Write>(
         (W.contents out.old) (W.contents out.new)) }
     ensures refused { RefusesOnly (NameUnreadable (O.finds opener.old) (map string_bytes words.items) result)
         (O.refused opener.old) (O.refused opener.new) }
+    ensures notes { WritesNotes (N.contents notes.old) (N.contents notes.new) }
 {
     let asked = match request_of(alloc, words.as_slice()) {
         Ok(asked) => asked,
         Err(stop) => {
-            note_word(&stop, notes);
+            note_word(alloc, &stop, notes);
             return Err(CliStop::from(stop));
         }
     };
     answer(alloc, &asked, opener, out, notes).map_err(CliStop::from)
 }
 
-/// Answers a request: writes the answer to `out`, and its notes to `notes`.
+/// Answers a request: writes the answer to `out`, and its notes to `notes` (`WritesNotes`), unless none are asked for.
 ///
 /// For a check of a table, one line is written, and nothing else: `yes`, if all that `check_within` of `lnt_table` states for a
 /// yes is true of the bytes that the opener gives for the files; or the first thing that is wrong, which is true of these
@@ -85,9 +88,9 @@ pub fn run_with_notes<O: Files, W: Write, N: Write>(
 /// first fault (`AnswersSymbols`). For the lines of a file, a line is written for each of them (`AnswersFile`).
 ///
 /// If it stops, a prefix of an answer has been written, and nothing else (`IsStopped`). It stops with `Read` or `TooLong` for a
-/// file that the request names (`IsFileIn`); with `Write` if `out` failed; and with `Memory`. If the opener refuses a file, it stops
-/// with `Read` and that file's name (`IsNamedUnreadable`). Listed sums are the exception: once the section is open, a listed file
-/// that is refused is part of the answer.
+/// file that the request names (`IsFileIn`), and with `TooLong` only if it has more than 2^40 bytes, as far as `IsLongIn` says; with
+/// `Write` if `out` failed; and with `Memory`. If the opener refuses a file, it stops with `Read` and that file's name
+/// (`IsNamedUnreadable`). Listed sums are the exception: once the section is open, a listed file that is refused is part of the answer.
 pub fn answer<O: Files, W: Write, N: Write>(
     alloc: Global,
     asked: &Asked<'_>,
@@ -101,6 +104,9 @@ pub fn answer<O: Files, W: Write, N: Write>(
     ensures stopped { OnErr result (IsStopped (O.finds opener.old) asked.now.request (W.contents out.old) (W.contents out.new)) }
     ensures refused { RefusesOnly (IsNamedUnreadable (O.finds opener.old) asked.now.request result)
         (O.refused opener.old) (O.refused opener.new) }
+    ensures too_long { IfErr result (TellsLong (IsLongIn (O.finds opener.old) asked.now.request)) }
+    ensures notes { WritesNotes (N.contents notes.old) (N.contents notes.new) }
+    ensures quiet { IsTrue asked.now.quiet → notes.new ≡ notes.old }
 {
     let seen = Cell::new(Seen::nothing());
     let ended = answer_request(alloc, &asked.request, opener, &seen, out);
@@ -124,6 +130,7 @@ fn answer_request<'r, O: Files, W: Write>(
     ensures stopped { OnErr result (IsStopped (O.finds opener.old) request.now (W.contents out.old) (W.contents out.new)) }
     ensures refused { RefusesOnly (IsNamedUnreadable (O.finds opener.old) request.now result)
         (O.refused opener.old) (O.refused opener.new) }
+    ensures too_long { IfErr result (TellsLong (IsLongIn (O.finds opener.old) request.now)) }
 {
     match request {
         Request::Help(text) => {
@@ -134,9 +141,14 @@ fn answer_request<'r, O: Files, W: Write>(
             section,
             order,
             reading,
-        } => read_section(alloc, section, *order, *reading, opener, seen, out),
+        } => {
+            let printing = Printing::Section(*order, *reading);
+            answer_printing(alloc, section, printing, opener, seen, out)
+        }
         Request::Upgrade(from) => upgrade_section(alloc, from, opener, seen, out),
-        Request::Symbols { file, base } => read_symbols(alloc, file, *base, opener, seen, out),
+        Request::Symbols { file, base } => {
+            answer_printing(alloc, file, Printing::Symbols(*base), opener, seen, out)
+        }
         Request::Judge { from, question } => {
             answer_question(alloc, from, question, opener, seen, out)
         }

@@ -1,13 +1,14 @@
 //! Questions about a section that is judged, alone or with another file.
-ghost use Rattle.std.specs.Prelude.{◌≡◌, ◌-◌, ◌^◌, ◌<◌, ◌⊎◌, IfErr, IfOk, IsErrAnd, OnErr};
+ghost use Rattle.std.specs.Prelude.{◌≡◌, ◌+◌, ◌-◌, ◌^◌, ◌<◌, ◌⊎◌, IfErr, IfOk, IsErrAnd, OnErr};
 ghost use Rattle.std.specs.Io.KnownBytes.{Keeps};
-ghost use Rattle.lnt_io.specs.Files.{RefusesOnly};
+ghost use Rattle.lnt_io.specs.Files.{IsTooLongFile, RefusesOnly};
+ghost use Rattle.lnt_io.specs.IoStops.{IsPrinting};
 ghost use Rattle.lnt_words.specs.declared.request.Question.TheVariants.{Md5};
 ghost use Rattle.lnt_answers.specs.Lines.{HasBegunLine, IsIndexGiven, IsReasonPrinted};
 ghost use Rattle.lnt_cli.specs.Answered.{AnswersFile, AnswersQuestion, IsJudgedSo, IsTrueOf, options_in};
 ghost use Rattle.lnt_cli.specs.Questions.{AnswersGood, AnswersGoodFile, AnswersJudged, BeginsGood, BeginsGoodFile, BeginsJudged};
-ghost use Rattle.lnt_cli.specs.Stops.{BeginsFile, BeginsQuestion, AnswersUnreadable, IsFileOf, IsFileOfBoth, IsUnreadable, NamesOneOf};
-ghost use Rattle.lnt_cli.specs.Stops.{StopsIfRefused};
+ghost use Rattle.lnt_cli.specs.Stops.{AnswersUnreadable, BeginsFile, BeginsQuestion, IsCausedBy, IsCausedByEither, IsFileOf, IsFileOfBoth};
+ghost use Rattle.lnt_cli.specs.Stops.{IsLongWith, IsOfCause, IsUnreadable, NamesOneOf, StopsIfRefused, TellsLong};
 
 use crate::check::check_table;
 use crate::inputs::{Opened, Texts, of_file, open_judged, open_other};
@@ -44,6 +45,7 @@ pub(crate) fn answer_question<'t, O: Files, W: Write>(
         ⊎ BeginsQuestion (O.finds opener.old) from.now question.now (W.contents out.old) (W.contents out.new)) }
     ensures refused { RefusesOnly (λ name. IsErrAnd result (λ stop. IsUnreadable stop name)
         ⊎ AnswersUnreadable (O.finds opener.old) from.now question.now) (O.refused opener.old) (O.refused opener.new) }
+    ensures too_long { IfErr result (TellsLong (λ name. IsTooLongFile (O.finds opener.old name))) }
 {
     let mut files = open_judged(alloc, opener, from, seen)?;
     answer_opened(alloc, from, question, &mut files, opener, out)
@@ -67,6 +69,7 @@ fn answer_opened<'t, S: Source, O: Files, W: Write>(
         ⊎ IsJudgedSo from.now (BeginsJudged (BeginsGood (O.finds opener.old) question.now) (W.contents out.old) (W.contents out.new))
         files.old.texts.line.items files.old.texts.general.items (S.remaining files.old.section)) }
     ensures refused { RefusesOnly (λ _. question.now ≡ Md5) (O.refused opener.old) (O.refused opener.new) }
+    ensures cause { IfErr result (IsCausedBy ⟦<S as Source>⟧ files.old.section files.new.section from.now.section.now) }
 {
     let name = String::from_str(alloc, from.section)?;
     match judge(alloc, &mut files.section, &files.texts, from, out)? {
@@ -100,6 +103,7 @@ pub(crate) fn answer_file<'f, O: Files, W: Write>(
     ensures stopped { OnErr result (Keeps (W.contents out.old) (W.contents out.new)
         ⊎ BeginsFile (O.finds opener.old) from.now file.now question (W.contents out.old) (W.contents out.new)) }
     ensures refused { StopsIfRefused result (O.refused opener.old) (O.refused opener.new) }
+    ensures too_long { IfErr result (TellsLong (IsLongWith (O.finds opener.old) from.now file.now question)) }
 {
     let mut files = open_judged(alloc, opener, from, seen)?;
     let mut other = open_other(alloc, opener, file)?;
@@ -144,6 +148,8 @@ fn answer_both<'f, S: Source, F: Source, W: Write>(
     ensures stopped { OnErr result (Keeps (W.contents out.old) (W.contents out.new)
         ⊎ IsJudgedSo from.now (BeginsJudged (BeginsGoodFile question (F.remaining other.old)) (W.contents out.old) (W.contents out.new))
         files.old.texts.line.items files.old.texts.general.items (S.remaining files.old.section)) }
+    ensures cause { IfErr result (IsCausedByEither ⟦<S as Source>⟧ files.old.section files.new.section from.now.section.now
+        ⟦<F as Source>⟧ other.old other.new file.now) }
 {
     match judge(alloc, &mut files.section, &files.texts, from, out)? {
         JudgedIndex::Good(index) => { answer_good_file(alloc, &index, file, question, other, out) }
@@ -166,6 +172,8 @@ fn answer_good_file<'f, F: Source, W: Write>(
         index.now (W.contents out.old) (W.contents out.new) answered.status) }
     ensures stopped { OnErr result (Keeps (W.contents out.old) (W.contents out.new)
         ⊎ BeginsGoodFile question (F.remaining bytes.old) index.now (W.contents out.old) (W.contents out.new)) }
+    ensures cause { IfErr result (IsOfCause
+        (λ name. (file.now ≡ name) × (F.failures bytes.new ≡ F.failures bytes.old + 1)) (λ name. file.now ≡ name)) }
 {
     let name = String::from_str(alloc, file)?;
     match question {
@@ -220,6 +228,7 @@ fn judge<'t, R: Source, W: Write>(
     ensures stopped { OnErr result (Keeps (W.contents out.old) (W.contents out.new)
         ⊎ HasBegunLine (IsTrueOf from.now texts.now.line.items texts.now.general.items (R.remaining section.old))
         (W.contents out.old) (W.contents out.new)) }
+    ensures cause { IfErr result (IsCausedBy ⟦<R as Source>⟧ section.old section.new from.now.section.now) }
 {
     let name = String::from_str(alloc, from.section)?;
     let judged = judge_or_refuse(alloc, section, &texts.strings(), &options_of(from), out);
@@ -240,6 +249,7 @@ fn print_answer<O: Files, W: Write>(
         AnswersGood (O.finds opener.old) question.now index.now (W.contents out.old) (W.contents out.new) status) }
     ensures stopped { OnErr result (BeginsGood (O.finds opener.old) question.now index.now (W.contents out.old) (W.contents out.new)) }
     ensures refused { RefusesOnly (λ _. question.now ≡ Md5) (O.refused opener.old) (O.refused opener.new) }
+    ensures err { IfErr result IsPrinting }
 {
     match question {
         Question::Verify => {

@@ -1,10 +1,12 @@
-//! Sections that are read, and not judged.
+//! Files that are read, and not judged.
 ghost use Rattle.std.specs.Prelude.{◌≡◌, ◌-◌, ◌^◌, ◌<◌, ◌⊎◌, IfErr, IfOk, IsErrOf, OnErr};
 ghost use Rattle.std.specs.Io.KnownBytes.{Keeps};
-ghost use Rattle.lnt_io.specs.Files.{RefusesOnly};
-ghost use Rattle.lnt_cli.specs.Answered.{AnswersRead, AnswersUpgrade};
+ghost use Rattle.lnt_io.specs.Files.{IsTooLongFile, RefusesOnly};
+ghost use Rattle.lnt_io.specs.Stopping.{CountsFailure, IsTooLongOn};
+ghost use Rattle.lnt_cli.specs.Answered.{AnswersUpgrade, IsOfBytes};
+ghost use Rattle.lnt_cli.specs.Printings.{AnswersPrinting, BeginsPrinting};
 ghost use Rattle.lnt_cli.specs.Questions.{AnswersReading, BeginsReading};
-ghost use Rattle.lnt_cli.specs.Stops.{StopsRead, StopsUpgrade, IsFileOfUpgrade, NamesOneOf, StopsIfRefused};
+ghost use Rattle.lnt_cli.specs.Stops.{IsFileOfUpgrade, NamesOneOf, StopsIfRefused, StopsUpgrade, TellsLong};
 
 use crate::inputs::{of_file, open_section, read_named, read_whole};
 use crate::notes::Answered;
@@ -12,31 +14,42 @@ use crate::stop::FileStop;
 use lnt_dump::{DumpParts, print_converted, print_dump, print_units, print_upgraded};
 use lnt_io::{Files, IoStop, Source, Status};
 use lnt_notes::Seen;
+use lnt_symbols::print_symbols;
 use lnt_wire::Order;
 use lnt_words::{Reading, Upgrading};
 use std::alloc::Global;
 use std::cell::Cell;
 use std::io::Write;
 
-// Prints what this reading of the section in the file with this name asks for. `seen` keeps what notes need of its bytes.
-pub(crate) fn read_section<'t, O: Files, W: Write>(
+// What is printed of a file that is read, and isn't judged.
+#[derive(Clone, Copy)]
+pub(crate) enum Printing {
+    // this reading of a section whose numbers have this byte order
+    Section(Order, Reading),
+    // the address table of a symbol file whose address 0 is loaded here
+    Symbols(u64),
+}
+
+// Prints this of the file with this name. `seen` keeps what notes need of its bytes.
+pub(crate) fn answer_printing<'t, O: Files, W: Write>(
     alloc: Global,
-    section: &str,
-    order: Order,
-    reading: Reading,
+    file: &str,
+    printing: Printing,
     opener: &mut O,
     seen: &Cell<Seen>,
     out: &mut W,
 ) -> Result<Answered<'t>, FileStop>
-    ensures named { IfErr result (NamesOneOf (λ name. section.now ≡ name)) }
-    ensures answer { IfOk result (λ answered. AnswersRead (O.finds opener.old) section.now order reading
-        (W.contents out.old) (W.contents out.new) answered.status) }
+    ensures named { IfErr result (NamesOneOf (λ name. file.now ≡ name)) }
+    ensures answer { IfOk result (λ answered. IsOfBytes (O.finds opener.old) file.now (λ known.
+        AnswersPrinting printing known (W.contents out.old) (W.contents out.new) answered.status)) }
     ensures stopped { OnErr result (Keeps (W.contents out.old) (W.contents out.new)
-        ⊎ StopsRead (O.finds opener.old) section.now order reading (W.contents out.old) (W.contents out.new)) }
+        ⊎ IsOfBytes (O.finds opener.old) file.now (λ known.
+        BeginsPrinting printing known (W.contents out.old) (W.contents out.new))) }
     ensures refused { StopsIfRefused result (O.refused opener.old) (O.refused opener.new) }
+    ensures too_long { IfErr result (TellsLong (λ name. IsTooLongFile (O.finds opener.old name))) }
 {
-    let name = String::from_str(alloc, section)?;
-    let printed = print_asked(alloc, section, order, reading, opener, seen, out);
+    let name = String::from_str(alloc, file)?;
+    let printed = print_file(alloc, file, printing, opener, seen, out);
     let status = of_file(name, printed)?;
     Ok(Answered::plain(status))
 }
@@ -56,6 +69,7 @@ pub(crate) fn upgrade_section<'t, O: Files, W: Write>(
     ensures stopped { OnErr result (Keeps (W.contents out.old) (W.contents out.new)
         ⊎ StopsUpgrade (O.finds opener.old) from.now (W.contents out.old) (W.contents out.new)) }
     ensures refused { StopsIfRefused result (O.refused opener.old) (O.refused opener.new) }
+    ensures too_long { IfErr result (TellsLong (λ name. IsTooLongFile (O.finds opener.old name))) }
 {
     let name = String::from_str(alloc, from.section)?;
     let read = read_whole(alloc, opener, from.section, seen);
@@ -68,25 +82,31 @@ pub(crate) fn upgrade_section<'t, O: Files, W: Write>(
     Ok(Answered::plain(status))
 }
 
-// The same. The name isn't told if it is stopped.
-fn print_asked<O: Files, W: Write>(
+// The same as `answer_printing`. The name isn't told if it is stopped.
+fn print_file<O: Files, W: Write>(
     alloc: Global,
-    section: &str,
-    order: Order,
-    reading: Reading,
+    file: &str,
+    printing: Printing,
     opener: &mut O,
     seen: &Cell<Seen>,
     out: &mut W,
 ) -> Result<Status, IoStop>
-    ensures answer { IfOk result (λ status. AnswersRead (O.finds opener.old) section.now order reading
-        (W.contents out.old) (W.contents out.new) status) }
+    ensures answer { IfOk result (λ status. IsOfBytes (O.finds opener.old) file.now (λ known.
+        AnswersPrinting printing known (W.contents out.old) (W.contents out.new) status)) }
     ensures stopped { OnErr result (Keeps (W.contents out.old) (W.contents out.new)
-        ⊎ StopsRead (O.finds opener.old) section.now order reading (W.contents out.old) (W.contents out.new)) }
-    ensures refused { RefusesOnly (λ other. IsErrOf result IoStop.Read × (section.now ≡ other))
+        ⊎ IsOfBytes (O.finds opener.old) file.now (λ known.
+        BeginsPrinting printing known (W.contents out.old) (W.contents out.new))) }
+    ensures refused { RefusesOnly (λ other. IsErrOf result IoStop.Read × (file.now ≡ other))
         (O.refused opener.old) (O.refused opener.new) }
+    ensures too_long { IsErrOf result IoStop.TooLong → IsTooLongFile (O.finds opener.old file.now) }
 {
-    let mut source = open_section(alloc, opener, section, seen)?;
-    print_reading(alloc, &mut source, order, reading, out)
+    let mut source = open_section(alloc, opener, file, seen)?;
+    match printing {
+        Printing::Section(order, reading) => {
+            print_reading(alloc, &mut source, order, reading, out)
+        }
+        Printing::Symbols(base) => print_symbols(alloc, &mut source, base, out),
+    }
 }
 
 // Prints what this reading of a section asks for: its units, a dump or the converted section.
@@ -101,6 +121,8 @@ fn print_reading<R: Source, W: Write>(
     ensures printed { IfOk result (AnswersReading order reading (R.remaining source.old) (W.contents out.old) (W.contents out.new)) }
     ensures begun { OnErr result (Keeps (W.contents out.old) (W.contents out.new)
         ⊎ BeginsReading order reading (R.remaining source.old) (W.contents out.old) (W.contents out.new)) }
+    ensures failures { CountsFailure ⟦<R as Source>⟧ source.old source.new result IoStop.Read }
+    ensures too_long { IsTooLongOn ⟦<R as Source>⟧ source.old source.new result IoStop.TooLong }
 {
     match reading {
         Reading::Units => print_units(alloc, source, order, out),

@@ -1,2 +1,4 @@
 pub mod HintLemmas
+pub mod LineLemmas
 pub mod NoteLemmas
+pub mod TextLemmas

@@ -17,7 +17,7 @@ mod watched;
 
 pub use note::{
     Given, Hints, hints_of, note_agreed, note_bad, note_good, note_no_symbols, note_refused,
-    note_table, print_note,
+    note_table, print_line_of, print_note,
 };
 pub use records::Columns;
 pub use watched::{Seen, WatchedReader};
