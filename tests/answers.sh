@@ -1,35 +1,26 @@
 #!/usr/bin/env bash
-# What the program answers of sections and tables that are written here byte by byte: verdicts, lookups, tables, sums,
+# What the program answers of small sections and tables: verdicts, lookups, tables, sums,
 # what is printed of units, and what it says of words that it doesn't take.
 cd "$(dirname "$(readlink -f -- "$0")")/.." || exit 1
 . tests/check.bash
 . tests/unit.bash
 
-# ---- units, in hexadecimal digits: little-endian and in the 32-bit format unless said otherwise
+# ---- units, as tests/worked.py has them by the names of their operations, in hexadecimal digits
 
-at() { # ADDRESS: sets it, of 16 digits
-  local digits=$1 place
-  printf 000902
-  for place in 14 12 10 8 6 4 2 0; do printf %s "${digits:place:2}"; done
+eval "$(python3 tests/worked.py units)"
+operations() { # OPERATIONS: the digits of a program
+  python3 tests/worked.py programs "$1"
 }
-at_1000=$(at 0000000000001000)
-at_1001=$(at 0000000000001001)
-at_1002=$(at 0000000000001002)
-at_1005=$(at 0000000000001005)
-at_2000=$(at 0000000000002000)
-at_3000=$(at 0000000000003000)
-end=000101
-plain_program=${at_1000}144b0202$end
+plain_program=$(operations "${operations[plain]}")
 
-# A little-endian unit of such parts, with both lengths told as they are: less than 256 bytes, with a header of this
-# many bytes after the field.
+# A little-endian unit in the 32-bit format of such parts, in digits, with both lengths told as they are: less than 256 bytes.
 unit() { # NUMBERS LENGTHS DIRECTORIES FILES PROGRAM
   local header_bytes=$(((${#1} + ${#2} + ${#3} + ${#4}) / 2))
   local rest=$1$2$3$4$5
   printf '%02x00000005000800%02x000000%s' $((8 + ${#rest} / 2)) $header_bytes "$rest"
 }
-program() { # PROGRAM: the unit of it
-  unit $numbers $lengths $directories $files "$1"
+program() { # OPERATIONS: the unit of them
+  unit $numbers $lengths $directories $files "$(operations "$1")"
 }
 with() { # UNIT PLACE DIGITS: other bytes in the place of as many
   printf %s "${1:0:2 * $2}$3${1:2 * $2 + ${#3}}"
@@ -37,30 +28,6 @@ with() { # UNIT PLACE DIGITS: other bytes in the place of as many
 cut_at() { # UNIT COUNT: its first bytes
   printf %s "${1:0:2 * $2}"
 }
-
-plain=43000000$start$header$plain_program
-two_rows_at_one_address=45000000$start$header${at_1000}140306010204000101
-empty_sequence=51000000$start$header$plain_program$at_1002$end
-three_operations=4a00000005000800290000001003${numbers:4}$lengths$directories$files${at_2000}1402020102020301010202$end
-const_add_pc=44000000$start$header${at_1000}1408010201$end
-fixed_advance_pc=4800000005000800290000000402${numbers:4}$lengths$directories$files${at_1000}140201090500010202$end
-opcode_base_10=410000000500080026000000010101fb0e0a000101010100000001$directories$files${at_1000}03090a0202$end
-opcode_base_15=49000000050008002b000000010101fb0e0f${lengths}0200$directories$files${at_1000}0d8001050e160202$end
-line_below_zero=44000000$start$header${at_1000}037e010202$end
-one_file=3e0000000500080024000000$numbers$lengths${directories}020108020b01612e630000$plain_program
-file_zero=400000000500080024000000$numbers$lengths${directories}020108020b01612e630000${at_1000}0400144b0202$end
-address_wraps=42000000$start$header$(at fffffffffffffff0)140210$end
-marks=49000000$start$header${at_1000}000204070a07144b0202$end
-two_sequences=54000000$start$header${at_1000}06140201$end${at_2000}140201$end
-line_strings=44000000050008002a000000$numbers${lengths}01011f0100000000$files$plain_program
-padded_operand=44000000$start$header${at_1000}144b028200$end
-wide=ffffffff0000000000000047000508000000000000000029$numbers$lengths$directories${files}0009020000000000001000144b0202$end
-listed=3e0000000500080036000000$numbers$lengths${directories}030108020b051e01612e630000d41d8cd98f00b204e9800998ecf8427e
-block_1=49000000050008002f000000$numbers${lengths}02010881400a012f730002aabb$files$plain_program
-block_2=4a0000000500080030000000$numbers${lengths}020108814003012f73000200aabb$files$plain_program
-block_4=4c0000000500080032000000$numbers${lengths}020108814004012f730002000000aabb$files$plain_program
-touching=53000000$start$header${at_1000}140201$end${at_1001}140201$end
-parted=53000000$start$header${at_1000}140201$end${at_2000}140201$end
 later=$(with "$plain" 56 05)
 
 # ---- how the program is asked
@@ -160,7 +127,7 @@ pairs=0c0108021f030e040f050b060507060807091e0a0981400a0c04
 values=61227f5c7e200010000000200000008001fffeff040302010807060504030201d41d8cd98f00b204e9800998ecf8427e0002aabb01000000cc
 reads 'a value of each form' 0 $'unit 0x0 32 112\nheader 8 1 1 1 -5 14 13\ndir 0 1="a\\x22\\x7f\\x5c~ " 2=line_strp:0x10 3=strp:0x20 4=128 5=255 6=65534 7=16909060 8=72623859790382856 9=d41d8cd98f00b204e9800998ecf8427e 10=block: 8193=block:aabb 12=block:cc\n' \
   "$(unit $numbers $lengths ${pairs}01$values 0000 '')" dump
-for block in "$block_1" "$block_2" "$block_4"; do
+for block in "$vendor_block1" "$vendor_block2" "$vendor_block4"; do
   put section "$block"
   expect 'a directory with a block' 0 $'dir 0 1="/s" 8193=block:aabb\n' '' bash -c 'crates/linetab/out/linetab dump "$0" | grep dir' "$work/section"
 done
@@ -183,10 +150,12 @@ reads 'entries without a format' 1 $'no 25 malformed at 0x1f: entries without a 
 reads 'more files than bytes' 1 $'no 25 malformed at 0x3e: truncated\n' "$(unit $numbers $lengths $directories 020108020bffffffffffffffffff01${files:12} $plain_program)" dump
 reads 'an extended operation of no byte' 1 $'no 25 malformed at 0x45: extended length\n' "$(with "$plain" 69 00)" dump --rows
 reads 'an extended operation that is cut' 1 $'no 25 malformed at 0x46: truncated\n' "$(with "$plain" 69 02)" dump
-reads 'rows of an open sequence' 1 $'no 26 run unit 0x0: open sequence\n' "$(program ${at_1000}144b0202)" dump --rows
-reads 'the header of an open sequence' 0 "unit 0x0 32 64${plain_text#unit 0x0 32 67}" "$(program ${at_1000}144b0202)" dump
+reads 'rows of an open sequence' 1 $'no 26 run unit 0x0: open sequence\n' "$open_sequence" dump --rows
+reads 'the header of an open sequence' 0 "unit 0x0 32 64${plain_text#unit 0x0 32 67}" "$open_sequence" dump
 reads 'rows of a line below 0' 1 $'no 26 run unit 0x0: line out of range at operation 1\n' "$line_below_zero" dump --ops --rows
-put section "$(unit 010101fb0e0f ${lengths}0200 $directories $files 0d8001050e000280ab0001030a070002040716037f0904000202$end)"
+put section "$(unit 010101fb0e0f ${lengths}0200 $directories $files "$(operations \
+  'unknown_standard 13 128 5;unknown_standard 14;unknown_extended 128 ab;unknown_extended 3;set_prologue_end;set_basic_block' \
+  )$(operations 'set_discriminator 7;special 22;advance_line -1;fixed_advance_pc 4;advance_pc 2;end_sequence')")"
 expect 'unknown operations, and marks of a row' 0 $'op 0 unknown_standard 13 128 5\nop 1 unknown_standard 14\nop 2 unknown_extended 128 ab\nop 3 unknown_extended 3\nop 4 set_prologue_end\nop 5 set_basic_block\nop 6 set_discriminator 7\nop 7 special 22\nop 8 advance_line -1\nop 9 fixed_advance_pc 4\nop 10 advance_pc 2\nop 11 end_sequence\nrow 0 0x0 0 1 3 0 1 bp 0 7\nrow 1 0x6 0 1 2 0 1 e 0 0\n' '' \
   bash -c 'crates/linetab/out/linetab dump --ops --rows "$0" | grep -E "^(op|row)"' "$work/section"
 
@@ -219,7 +188,7 @@ helps 'Usage: linetab files [OPTIONS] <SECTION>' files --help
 helps 'Usage: linetab table [OPTIONS] <SECTION>' table --help
 helps 'Usage: linetab convert [OPTIONS] --format <32|64> --order <little|big> <SECTION>' convert --help
 helps 'Usage: linetab md5 [OPTIONS] <SECTION>' md5 --help
-helps "Where one isn't the same, the status is 1." md5 --help
+helps "If one isn't the same, the status is 1." md5 --help
 for number in 25 26 27 28 29 30 31 32 36 37 38 39 40; do
   expect "help: number $number" 0 $'1\n' '' bash -c 'crates/linetab/out/linetab check --help | grep -Ec "^  $0  .* \(docs/[A-Z]+\.md"' $number
 done
@@ -278,9 +247,9 @@ agrees 'a marker of dead code in the middle of a sequence' "$plain" "$table" --d
 agrees 'rows of file 0, with one file' "$file_zero" "$names"$'0x1000,0,0x1004,0,0,0,3,0,1\n0x1004,0,0x1006,0,0,0,4,0,1\n'
 agrees 'an operand with padding' "$padded_operand" "$table"
 agrees 'rows that begin no statement' "$two_sequences" "$names"$'0x1000,0,0x1001,0,0,1,3,0,0\n0x2000,0,0x2001,0,0,1,3,0,1\n'
-agrees 'rows within an instruction' "$three_operations" "$names"$'0x2000,0,0x2010,1,0,1,3,0,1\n0x2010,1,0x2020,0,0,1,4,0,1\n'
-agrees 'strings in their section' "$line_strings" "$table" --line-str "$work/strings"
-for block in "$block_1" "$block_2" "$block_4"; do
+agrees 'rows within an instruction' "$three_operations_per_instruction" "$names"$'0x2000,0,0x2010,1,0,1,3,0,1\n0x2010,1,0x2020,0,0,1,4,0,1\n'
+agrees 'strings in their section' "$line_strp_directory" "$table" --line-str "$work/strings"
+for block in "$vendor_block1" "$vendor_block2" "$vendor_block4"; do
   agrees 'a directory with a block, and its table' "$block" "$table"
 done
 
@@ -290,7 +259,7 @@ differs 'no first record' 'no 40 differs at 0x1000,0 table none section 0,1,3,0,
 differs 'no last record' 'no 40 differs at 0x1004,0 table none section 0,1,4,0,1' "$plain" "$names$first"
 differs 'a last record that ends late' 'no 40 differs at 0x1006,0 table 0,1,4,0,1 section none' "$plain" "$names$first"$'0x1004,0,0x1007,0,0,1,4,0,1\n'
 differs 'a gap' 'no 40 differs at 0x1002,0 table none section 0,1,3,0,1' "$plain" "$names"$'0x1000,0,0x1002,0,0,1,3,0,1\n'"$second"
-differs 'a border within an instruction' 'no 40 differs at 0x2010,0 table 0,1,4,0,1 section 0,1,3,0,1' "$three_operations" "$names"$'0x2000,0,0x2010,0,0,1,3,0,1\n0x2010,0,0x2020,0,0,1,4,0,1\n'
+differs 'a border within an instruction' 'no 40 differs at 0x2010,0 table 0,1,4,0,1 section 0,1,3,0,1' "$three_operations_per_instruction" "$names"$'0x2000,0,0x2010,0,0,1,3,0,1\n0x2010,0,0x2020,0,0,1,4,0,1\n'
 differs 'another line' 'no 40 differs at 0x1000,0 table 0,1,9,0,1 section 0,1,3,0,1' "$plain" "$names"$'0x1000,0,0x1004,0,0,1,9,0,1\n'"$second"
 differs 'another unit, file, column and flag' 'no 40 differs at 0x1000,0 table 7,2,3,5,0 section 0,1,3,0,1' "$plain" "$names"$'0x1000,0,0x1004,0,7,2,3,5,0\n'"$second"
 
@@ -298,11 +267,11 @@ differs 'another unit, file, column and flag' 'no 40 differs at 0x1000,0 table 7
 
 wide_marks=$wide_names$'0x1000,0,0x1004,0,0,1,3,0,1,0,7\n0x1004,0,0x1006,0,0,1,4,0,1,0,0\n'
 wide_plain=$wide_names$'0x1000,0,0x1004,0,0,1,3,0,1,0,0\n0x1004,0,0x1006,0,0,1,4,0,1,0,0\n'
-agrees 'a discriminator and a narrow table' "$marks" "$table"
-agrees 'a discriminator and a wide table' "$marks" "$wide_marks"
+agrees 'a discriminator and a narrow table' "$marks_and_discriminator" "$table"
+agrees 'a discriminator and a wide table' "$marks_and_discriminator" "$wide_marks"
 agrees 'a wide table' "$plain" "$wide_plain"
-differs 'another discriminator' 'no 40 differs at 0x1000,0 table 0,1,3,0,1,0,0 section 0,1,3,0,1,0,7' "$marks" "$wide_plain"
-differs 'a discriminator, and another line in a narrow table' 'no 40 differs at 0x1000,0 table 0,1,9,0,1 section 0,1,3,0,1' "$marks" "$names"$'0x1000,0,0x1004,0,0,1,9,0,1\n'"$second"
+differs 'another discriminator' 'no 40 differs at 0x1000,0 table 0,1,3,0,1,0,0 section 0,1,3,0,1,0,7' "$marks_and_discriminator" "$wide_plain"
+differs 'a discriminator, and another line in a narrow table' 'no 40 differs at 0x1000,0 table 0,1,9,0,1 section 0,1,3,0,1' "$marks_and_discriminator" "$names"$'0x1000,0,0x1004,0,0,1,9,0,1\n'"$second"
 differs 'another instruction set' 'no 40 differs at 0x1004,0 table 0,1,4,0,1,6,0 section 0,1,4,0,1,0,0' "$plain" "$wide_names"$'0x1000,0,0x1004,0,0,1,3,0,1,0,0\n0x1004,0,0x1006,0,0,1,4,0,1,6,0\n'
 
 # ---- tables at fault
@@ -344,43 +313,52 @@ is_bad 'a big-endian unit taken as a little-endian one' 'no 25 malformed at 0x0:
 is_bad 'a line below 0' 'no 26 run unit 0x0: line out of range at operation 1' "$line_below_zero"
 is_bad 'a line below 0, and a byte that begins no unit' 'no 26 run unit 0x0: line out of range at operation 1' "${line_below_zero}00"
 is_bad 'a line below 0, and an extended operation of no byte after it' 'no 25 malformed at 0x46: extended length' "$(with "$line_below_zero" 70 00)"
-is_bad 'an open sequence' 'no 26 run unit 0x0: open sequence' "$(program ${at_1000}144b0202)"
+is_bad 'an open sequence' 'no 26 run unit 0x0: open sequence' "$open_sequence"
 is_bad 'directories without a path' 'no 27 entry format unit 0x0 directories' "$(with "$plain" 31 03)"
 is_bad 'files without a path' 'no 27 entry format unit 0x0 files' "$(with "$plain" 38 03)"
 is_bad 'files with a vendor path' 'no 27 entry format unit 0x0 files' "$(with "$plain" 38 09)"
-is_bad 'no line strings' 'no 28 string outside unit 0x0 directories entry 0' "$line_strings"
-is_bad 'line strings without an end' 'no 28 string outside unit 0x0 directories entry 0' "$line_strings" --line-str "$work/strings_without_end"
+is_bad 'no line strings' 'no 28 string outside unit 0x0 directories entry 0' "$line_strp_directory"
+is_bad 'line strings without an end' 'no 28 string outside unit 0x0 directories entry 0' "$line_strp_directory" --line-str "$work/strings_without_end"
 is_bad 'a directory that is not there' 'no 29 directory number unit 0x0 file 1' "$(with "$plain" 52 05)"
-is_bad 'a file that is not there' 'no 30 file number unit 0x0 row 0 file 1' "$one_file"
-is_bad 'a file that is set and not there' 'no 30 file number unit 0x0 row 0 file 2' "$(program ${at_1000}0402144b0202$end)"
+is_bad 'a file that is not there' 'no 30 file number unit 0x0 row 0 file 1' "$one_file_from_zero"
+is_bad 'a file that is set and not there' 'no 30 file number unit 0x0 row 0 file 2' "$(program "${operations[plain]/;/;set_file 2;}")"
 is_bad 'an address that wraps' 'no 31 falls unit 0x0 row 1' "$address_wraps"
 is_bad 'a unit twice' 'no 32 overlap 0x0:0 0x47:0 at 0x1000,0' "$plain$plain"
 is_bad 'a unit twice, and a marker in the middle of its sequence' 'no 32 overlap 0x0:0 0x47:0 at 0x1000,0' "$plain$plain" --dead 0x1004
-is_bad 'units that overlap past another' 'no 32 overlap 0x0:0 0x95:0 at 0x1005,0' "$plain$three_operations$later"
+is_bad 'units that overlap past another' 'no 32 overlap 0x0:0 0x95:0 at 0x1005,0' "$plain$three_operations_per_instruction$later"
 agrees 'a unit twice, dead' "$plain$plain" "$names" --dead 0x1000
 agrees 'an address that wraps, dead' "$address_wraps" "$names" --dead 0xfffffffffffffff0
 
 # ---- sequences
 
+# A sequence: some operations, a row, and its end so many bytes behind it.
+rows_from() { # ADDRESS SIZE [OPERATIONS]
+  printf 'set_address %s;%scopy;advance_pc %s;end_sequence;' "$1" "$3" "$2"
+}
+
 # Two files are there. End rows name none.
-missing=$(program "${at_1000}040001${at_1001}$end${at_2000}040201$(at 0000000000002004)040101${at_3000}0407$end")
+missing='set_address 0x1000;set_file 0;copy;set_address 0x1001;end_sequence;set_address 0x2000;set_file 2;copy;'
+missing=$(program "${missing}set_address 0x2004;set_file 1;copy;set_address 0x3000;set_file 7;end_sequence")
 is_bad 'a file that is not there in the second sequence' 'no 30 file number unit 0x0 row 2 file 2' "$missing"
 agrees 'a file that is not there in a dead sequence' "$missing" "$names"$'0x1000,0,0x1001,0,0,0,1,0,1\n' --dead 0x2000
-agrees 'a file that is not there at an end' "$(program "${at_1000}040001${at_3000}0407$end")" "$names"$'0x1000,0,0x3000,0,0,0,1,0,1\n'
+agrees 'a file that is not there at an end' "$(program 'set_address 0x1000;set_file 0;copy;set_address 0x3000;set_file 7;end_sequence')" "$names"$'0x1000,0,0x3000,0,0,0,1,0,1\n'
 
-falling=$(program "${at_1000}01${at_1001}$end${at_3000}01${at_2000}0101${at_1000}$end")
+falling='set_address 0x1000;copy;set_address 0x1001;end_sequence;set_address 0x3000;copy;set_address 0x2000;copy;copy;'
+falling=$(program "${falling}set_address 0x1000;end_sequence")
 is_bad 'rows that fall' 'no 31 falls unit 0x0 row 3' "$falling"
 is_bad 'rows that fall to a marker' 'no 31 falls unit 0x0 row 3' "$falling" --dead 0x2000
 agrees 'rows that fall in a dead sequence' "$falling" "$names"$'0x1000,0,0x1001,0,0,1,1,0,1\n' --dead 0x3000
-is_bad 'rows that fall within an instruction' 'no 31 falls unit 0x0 row 1' "$(unit 010301fb0e0d $lengths $directories $files "${at_1000}020201${at_1000}020101${at_2000}$end")"
+is_bad 'rows that fall within an instruction' 'no 31 falls unit 0x0 row 1' "$(unit 010301fb0e0d $lengths $directories $files \
+  "$(operations 'set_address 0x1000;advance_pc 2;copy;set_address 0x1000;advance_pc 1;copy;set_address 0x2000;end_sequence')")"
 
 is_bad 'sequences that overlap, of which one is not the next' 'no 32 overlap 0x0:0 0x0:2 at 0x1005,0' \
-  "$(program "${at_1000}010206$end${at_2000}010201$end${at_1005}010203$end${at_1005}010201$end")"
-same=$(program "010204${end}0202${end}$(at 0000000000000008)010204${end}010204$end")
+  "$(program "$(rows_from 0x1000 6)$(rows_from 0x2000 1)$(rows_from 0x1005 3)$(rows_from 0x1005 1)")"
+row='copy;advance_pc 4;end_sequence;'
+same=$(program "${row}advance_pc 2;end_sequence;set_address 0x8;$row$row")
 is_bad 'one sequence twice, and two between' 'no 32 overlap 0x0:0 0x0:3 at 0x0,0' "$same"
 agrees 'one sequence twice, skipped, and two between' "$same" "$names"$'0x0,0,0x4,0,0,1,1,0,1\n0x8,0,0xc,0,0,1,1,0,1\n' --skip-copies
 is_bad 'sequences that overlap, and are no copies' 'no 32 overlap 0x0:0 0x0:1 at 0x1005,0' \
-  "$(program "${at_1000}010206$end${at_1005}010201$end")" --skip-copies
+  "$(program "$(rows_from 0x1000 6)$(rows_from 0x1005 1)")" --skip-copies
 agrees 'one sequence twice, dead, and two between' "$same" "$names"$'0x8,0,0xc,0,0,1,1,0,1\n' --dead 0x0
 
 # ---- tables written
@@ -391,26 +369,27 @@ writes 'the table of a unit without a program' '' "$listed"
 writes 'a table after a marker in the middle of a sequence' "$first$second" "$plain" --dead 0x1004
 writes 'the table of dead code' '' "$plain" --dead 0x1000
 writes 'two rows at one address' $'0x1000,0,0x1004,0,0,1,9,0,1\n' "$two_rows_at_one_address"
-writes 'rows within an instruction that say the same' $'0x2000,0,0x2010,1,0,1,3,0,1\n0x2010,1,0x2020,0,0,1,4,0,1\n' "$three_operations"
-writes 'sequences that touch and say the same' $'0x1000,0,0x1002,0,0,1,3,0,1\n' "$touching"
-writes 'sequences that say the same apart' $'0x1000,0,0x1001,0,0,1,3,0,1\n0x2000,0,0x2001,0,0,1,3,0,1\n' "$parted"
+writes 'rows within an instruction that say the same' $'0x2000,0,0x2010,1,0,1,3,0,1\n0x2010,1,0x2020,0,0,1,4,0,1\n' "$three_operations_per_instruction"
+writes 'sequences that touch and say the same' $'0x1000,0,0x1002,0,0,1,3,0,1\n' "$touching_sequences"
+writes 'sequences that say the same apart' $'0x1000,0,0x1001,0,0,1,3,0,1\n0x2000,0,0x2001,0,0,1,3,0,1\n' "$parted_sequences"
 writes 'sequences in falling order' $'0x1000,0,0x1001,0,0,1,3,0,1\n0x1001,0,0x1002,0,0,1,4,0,1\n0x2000,0,0x2001,0,0,1,5,0,1\n' \
-  "$(program "${at_2000}0304010201$end${at_1001}0303010201$end${at_1000}0302010201$end")"
+  "$(program "$(rows_from 0x2000 1 'advance_line 4;')$(rows_from 0x1001 1 'advance_line 3;')$(rows_from 0x1000 1 'advance_line 2;')")"
 writes 'two rows after a sequence at a greater address' $'0x1000,0,0x1004,0,0,1,1,0,1\n0x1004,0,0x1008,0,0,1,2,0,1\n0x2000,0,0x2004,0,0,1,3,0,1\n' \
-  "$(program "${at_2000}0302010204$end${at_1000}0102040301010204$end")"
-writes 'empty sequences after another' "$first$second" "$(program "$plain_program$at_1002$end${at_1002}030601$end")"
-writes 'rows that differ in what is not told' $'0x1000,0,0x1006,0,0,1,1,0,1\n' "$(program "${at_1000}01000204070202010204$end")"
+  "$(program "$(rows_from 0x2000 4 'advance_line 2;')$(rows_from 0x1000 4 'copy;advance_pc 4;advance_line 1;')")"
+writes 'empty sequences after another' "$first$second" "$(program "${operations[plain]};set_address 0x1002;end_sequence;set_address 0x1002;advance_line 6;copy;end_sequence")"
+writes 'rows that differ in what is not told' $'0x1000,0,0x1006,0,0,1,1,0,1\n' "$(program "$(rows_from 0x1000 4 'copy;set_discriminator 7;advance_pc 2;')")"
 put section "$plain"
 says 'a wide table written' 0 "$wide_plain" table --wide "$work/section"
-put section "$marks"
+put section "$marks_and_discriminator"
 says 'a wide table with a discriminator' 0 "$wide_marks" table --wide "$work/section"
-greatest=ffffffffffffffffff01
-put section "$(program "$(at 0000000000000000)05802003090c${greatest}000b04${greatest}01$(at ffffffffffffffff)$end")"
-says 'the greatest numbers' 0 "$wide_names"$'0x0,0,0xffffffffffffffff,0,0,1,10,4096,1,18446744073709551615,18446744073709551615\n' table --wide "$work/section"
+greatest=18446744073709551615
+put section "$(program "set_address 0x0;set_column 4096;advance_line 9;set_isa $greatest;set_discriminator $greatest;copy;\
+set_address 0xffffffffffffffff;end_sequence")"
+says 'the greatest numbers' 0 "$wide_names""0x0,0,0xffffffffffffffff,0,0,1,10,4096,1,$greatest,$greatest"$'\n' table --wide "$work/section"
 put section "$plain"
 says 'a table by path' 0 $'low,high,path,line,column\n0x1000,0x1004,/s/a.c,3,0\n0x1004,0x1006,/s/a.c,4,0\n' table --paths "$work/section"
 says 'a table by path without columns' 0 $'low,high,path,line\n0x1000,0x1004,/s/a.c,3\n0x1004,0x1006,/s/a.c,4\n' table "$work/section" --lines
-put section "$three_operations"
+put section "$three_operations_per_instruction"
 says 'a table by path of a part of an instruction' 1 $'no 43 operation index at 0x2010,1\n' table --paths "$work/section"
 
 # A good section, its own table of each version, and the section cut after each number of bytes.
@@ -421,17 +400,18 @@ has_tables() { # NAME UNIT [OPTION..]
   says "$1, and its own table" 0 $'yes\n' check "$work/section" "$work/own" "${@:3}"
   says "$1, and its own wide table" 0 $'yes\n' check "$work/section" "$work/own_wide" "${@:3}"
 }
-for name in plain two_rows_at_one_address empty_sequence three_operations const_add_pc fixed_advance_pc opcode_base_10 opcode_base_15 file_zero marks two_sequences padded_operand listed block_1 block_2 block_4 touching parted; do
+for name in plain two_rows_at_one_address empty_sequence three_operations_per_instruction const_add_pc fixed_advance_pc opcode_base_10 opcode_base_15 \
+    file_zero marks_and_discriminator two_sequences padded_operand listed vendor_block{1,2,4} touching_sequences parted_sequences; do
   has_tables "$name" "${!name}"
   is_cut "$name" "${!name}"
 done
 has_tables 'no unit' ''
-has_tables 'line strings' "$line_strings" --line-str "$work/strings"
-is_cut 'line strings' "$line_strings"
+has_tables 'line strings' "$line_strp_directory" --line-str "$work/strings"
+is_cut 'line strings' "$line_strp_directory"
 has_tables 'the 64-bit format' "$wide" --big
 is_cut 'the 64-bit format' "$wide" --big
 has_tables 'an address that wraps, dead' "$address_wraps" --dead 0xfffffffffffffff0
-for name in line_below_zero one_file address_wraps; do
+for name in line_below_zero one_file_from_zero address_wraps; do
   is_cut "$name" "${!name}"
 done
 
@@ -473,10 +453,10 @@ looks 'a marker in the middle of a sequence' "0x1004,0 unit 0 file 1 line 4 $a_c
 looks 'dead code' '0x1005,0 none' "$plain" 0x1005 --dead 0x1000
 looks 'no unit' '0x0,0 none' '' 0x0
 looks 'two rows at one address' "0x1000,0 unit 0 file 1 line 9 $a_c" "$two_rows_at_one_address" 0x1000
-looks 'before a border within an instruction' "0x2010,0 unit 0 file 1 line 3 $a_c" "$three_operations" 0x2010
-looks 'after a border within an instruction' "0x2010,1 unit 0 file 1 line 4 $a_c" "$three_operations" 0x2010 --op 1
-looks 'before a row within an instruction' "0x2000,1 unit 0 file 1 line 3 $a_c" "$three_operations" 0x2000 --op 1
-looks 'a second unit' "0x2010,1 unit 71 file 1 line 4 $a_c" "$plain$three_operations" 0x2010 --op 1
+looks 'before a border within an instruction' "0x2010,0 unit 0 file 1 line 3 $a_c" "$three_operations_per_instruction" 0x2010
+looks 'after a border within an instruction' "0x2010,1 unit 0 file 1 line 4 $a_c" "$three_operations_per_instruction" 0x2010 --op 1
+looks 'before a row within an instruction' "0x2000,1 unit 0 file 1 line 3 $a_c" "$three_operations_per_instruction" 0x2000 --op 1
+looks 'a second unit' "0x2010,1 unit 71 file 1 line 4 $a_c" "$plain$three_operations_per_instruction" 0x2010 --op 1
 looks 'a big-endian unit' "0x1005,0 unit 0 file 1 line 4 $a_c" "$wide" 0x1005 --big
 looks 'a row that begins no statement' '0x1000,0 unit 0 file 1 line 3 column 0 stmt 0 path "/s/a.c"' "$two_sequences" 0x1000
 put section "$plain"
@@ -489,24 +469,24 @@ has_path() { # PATH UNIT [OPTION..]: at 0x1000
   expect "path $1" 0 "path \"$1\""$'\n' '' bash -c 'crates/linetab/out/linetab lookup "$0" 0x1000 "$@" | grep -Eo "path .*"' "$work/section" "${@:3}"
 }
 of_file() { # NUMBER DIRECTORIES FILES: rows of that file
-  unit $numbers $lengths "$2" "$3" "${at_1000}04${1}144b0202$end"
+  unit $numbers $lengths "$2" "$3" "$(operations "${operations[plain]/;/;set_file $1;}")"
 }
 a_c_in_0=020108020b01612e630000
 below=020108020b02612e630000612e630001
-has_path /s/a.c "$(of_file 00 $directories $files)"
-has_path /s/a.c "$(of_file 01 $directories $files)"
-has_path /s/a.c "$(of_file 00 010108022f73007400 $below)"
-has_path /s/t/a.c "$(of_file 01 010108022f73007400 $below)"
-has_path //a.c "$(of_file 00 010108012f2f00 $a_c_in_0)"
-has_path rs/a.c "$(of_file 00 01010801727300 $a_c_in_0)"
-has_path /.c "$(of_file 00 $directories 020108020b012f2e630000)"
-has_path /a.c "$(of_file 01 010108022f73002f00 $below)"
-has_path //t/a.c "$(of_file 01 010108022f2f007400 $below)"
-has_path /.c "$(of_file 01 010108022f73007400 020108020b02612e6300002f2e630001)"
-has_path '\x22\xff' "$(of_file 00 0101080100 020108020b0122ff0000)"
-has_path /s/a.c "$line_strings" --line-str "$work/strings"
-has_path /s/a.c "$(with "$line_strings" 32 0e)" --str "$work/strings"
-put section "$line_strings"
+has_path /s/a.c "$(of_file 0 $directories $files)"
+has_path /s/a.c "$(of_file 1 $directories $files)"
+has_path /s/a.c "$(of_file 0 010108022f73007400 $below)"
+has_path /s/t/a.c "$(of_file 1 010108022f73007400 $below)"
+has_path //a.c "$(of_file 0 010108012f2f00 $a_c_in_0)"
+has_path rs/a.c "$(of_file 0 01010801727300 $a_c_in_0)"
+has_path /.c "$(of_file 0 $directories 020108020b012f2e630000)"
+has_path /a.c "$(of_file 1 010108022f73002f00 $below)"
+has_path //t/a.c "$(of_file 1 010108022f2f007400 $below)"
+has_path /.c "$(of_file 1 010108022f73007400 020108020b02612e6300002f2e630001)"
+has_path '\x22\xff' "$(of_file 0 0101080100 020108020b0122ff0000)"
+has_path /s/a.c "$line_strp_directory" --line-str "$work/strings"
+has_path /s/a.c "$(with "$line_strp_directory" 32 0e)" --str "$work/strings"
+put section "$line_strp_directory"
 outside=$'no 28 string outside unit 0x0 directories entry 0\n'
 says 'line strings without an end, looked up' 1 "$outside" lookup "$work/section" 0x1000 --line-str "$work/strings_without_end"
 says 'strings in the other section' 1 "$outside" lookup "$work/section" 0x1000 --str "$work/strings"

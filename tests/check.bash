@@ -1,7 +1,7 @@
 # For the scripts of tests/: runs a command and compares what it writes and its exit status with what is wanted. That python3 is
 # here is taken for granted, since the toolchain's command `rt` is written in it.
-# With ONLY=TEXT before a script, only those cases count whose names have this text. The others run too, since what they make may be
-# needed, but nothing is compared.
+# With ONLY=TEXT before a script, only those cases count whose names have this text. Commands of others run too if later ones may need
+# what they make, but nothing is compared.
 top=$PWD
 . ./sources.bash
 tell_help "tests/${0##*/}" "$@"
@@ -25,6 +25,23 @@ bytes() {
   printf '%b' "$(printf '%s' "$*" | tr -d ' \n' | sed 's/../\\x&/g')"
 }
 
+# Whether a case of this name counts.
+is_chosen() { # NAME
+  [[ $1 == *"$ONLY"* ]]
+}
+
+# Counts a case as passed.
+pass() { # NAME
+  ! is_chosen "$1" || passed=$((passed + 1))
+}
+
+# Counts a case as failed, and says so.
+fail() { # NAME [TEXT]
+  is_chosen "$1" || return 0
+  failed=$((failed + 1))
+  echo "failed: $1${2:+: $2}"
+}
+
 # expect NAME STATUS STDOUT STDERR COMMAND..: STDOUT and STDERR as $'..' texts, byte for byte, but for the notes after
 # what is wanted on standard error.
 expect() {
@@ -45,16 +62,15 @@ expect_notes() {
 # is_written NAME STATUS GIVEN STDOUT STDERR FILE: what was written, STDERR to the file, and the status that was given.
 is_written() {
   local name=$1 status=$2 given=$3 out=$4 err=$5
-  [[ $name == *"$ONLY"* ]] || return 0
+  is_chosen "$name" || return 0
   cat "$6" >"$work/err"
   printf '%s' "$out" >"$work/out.wanted"
   printf '%s' "$err" >"$work/err.wanted"
   if [ "$given" -eq "$status" ] && cmp -s "$work/out" "$work/out.wanted" && cmp -s "$work/err" "$work/err.wanted"; then
-    passed=$((passed + 1))
+    pass "$name"
     return
   fi
-  failed=$((failed + 1))
-  echo "failed: $name: status $given, wanted $status"
+  fail "$name" "status $given, wanted $status"
   diff "$work/out.wanted" "$work/out" | head -n 10
   diff "$work/err.wanted" "$work/err" | head -n 10
 }

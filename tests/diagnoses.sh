@@ -225,7 +225,7 @@ misplaced() {
   refused 'another file first' raw "it is no program, $first raw" check raw app
   : >empty
   refused 'an empty file first' empty "it is empty, $first empty" check empty app
-  refused 'the program twice' app "it is a program, and stands where its table or symbol file has to: linetab-object check app SYMBOLS" check app app
+  refused 'the program twice' app "it is a program, and is in the place of its table or symbol file: linetab-object check app SYMBOLS" check app app
   refused 'an empty file' empty 'it is empty: what should have written it failed, or wrote nothing' check app empty
   refused 'an empty file by a pipe' - 'it is empty: what should have written it failed, or wrote nothing' check app - </dev/null
   refused 'no program at all' app.sym \
@@ -247,12 +247,12 @@ makers() {
   local maker file
   says=linetab-table:
   printf 'app:\tfile format elf64-x86-64\n\n.debug_line contents:\n' >app.llvm
-  declare -A kinds=([app.sym]='it is a symbol file of Breakpad: linetab-table breakpad app.sym' [app.gsym]='it is a GSYM file: linetab-table gsym app.gsym'
+  declare -A kinds=([app.sym]='it is a symbol file of Breakpad: linetab symbols app.sym' [app.gsym]='it is a GSYM file: linetab-table gsym app.gsym'
     [app.llvm]='it is what llvm-dwarfdump --debug-line prints: linetab-table llvm-dwarfdump app.llvm'
     [app.readelf]='it is what readelf --debug-dump=decodedline prints: linetab-table readelf app.readelf'
     [four.csv]='it is an address table already: linetab-object check PROGRAM four.csv compares it with a program')
-  declare -A own=([gsym]=app.gsym [gsym-17]=app.gsym [breakpad]=app.sym [llvm-dwarfdump]=app.llvm [readelf]=app.readelf)
-  declare -A of=([gsym]='llvm-gsymutil --convert app --out-file FILE makes a GSYM file of it' [breakpad]='dump_syms app | linetab-table breakpad -'
+  declare -A own=([gsym]=app.gsym [gsym-17]=app.gsym [llvm-dwarfdump]=app.llvm [readelf]=app.readelf)
+  declare -A of=([gsym]='llvm-gsymutil --convert app --out-file FILE makes a GSYM file of it'
     [gsym-17]='llvm-gsymutil --convert app --out-file FILE makes a GSYM file of it'
     [llvm-dwarfdump]='llvm-dwarfdump --debug-line app | linetab-table llvm-dwarfdump -'
     [readelf]='readelf --wide --debug-dump=decodedline app | linetab-table readelf -')
@@ -266,7 +266,7 @@ makers() {
   for file in "${!kinds[@]}"; do
     expect_notes "points of $file" 3 '' "$says $file: ${kinds[$file]}"$'\n' "$work/bin/linetab-table" points addr2line "$file"
   done
-  expect_notes 'another maker by a pipe' 3 '' "$says -: it is a symbol file of Breakpad: linetab-table breakpad -"$'\n' \
+  expect_notes 'another maker by a pipe' 3 '' "$says -: it is a symbol file of Breakpad: linetab symbols -"$'\n' \
     bash -c 'cat app.sym | bin/linetab-table gsym -'
 }
 

@@ -20,7 +20,7 @@ section_says() { # NAME ADDRESS WANTED
   local said
   said=$("$object" lookup "$build/app" "$2" --quiet 2>&1 | sed -nE 's/^[^ ]* (none)$/\1/p; s/.* line ([0-9]+) .* path "(.*)"$/\2:\1/p')
   if [ "$said" = "$3" ]; then
-    passed=$((passed + 1))
+    pass "$1"
     return 0
   fi
   skip "$1: the compiler here makes another program, whose section says ${said:-nothing}"
@@ -32,12 +32,11 @@ tool_says() {
   shift 3
   said=$("$@" 2>/dev/null)
   if [ "$said" = "$wrong" ]; then
-    passed=$((passed + 1))
+    pass "$name"
   elif [ "$said" = "$right" ]; then
     skip "$name: the one here is right"
   else
-    failed=$((failed + 1))
-    echo "failed: $name: it says ${said:-nothing}"
+    fail "$name" "it says ${said:-nothing}"
   fi
 }
 # Commands of this name, also those with the number of a version behind it.

@@ -74,7 +74,7 @@ over_hosts() {
   make_hosts >"$work/said" 2>&1 || { skip "several hosts: none can be made here: $(tail -n 1 "$work/said")"; return; }
   expect 'both answer' 0 $'one\ntwo\n' '' on_hosts "parallel --nonall --sshlogin one,two 'echo \$HOSTED' | sort"
   expect 'tables' 0 '' '' on_hosts "find store -name '*.debug' | parallel --sshlogin one,two --wd . 'linetab-object table {} >{.}.csv'"
-  [ ${#commands[@]} -gt 0 ] || { failed=$((failed + 1)); echo 'failed: no command of the page has --sshlogin'; }
+  [ ${#commands[@]} -gt 0 ] || fail 'no command of the page has --sshlogin'
   for command in "${commands[@]}"; do
     expect "$command" 0 '' '' on_hosts "$command"
   done

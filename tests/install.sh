@@ -1,7 +1,7 @@
 #!/usr/bin/env bash
 # What install puts under a prefix: programs that run, man pages and completions of each word and option that the program's help
-# has, and documents; and the archive of release, which is the same twice, and runs where nothing but the C library is. What words
-# neither takes, what they leave where something is in the way, and that all is removed again.
+# has, and documents; and the archive and the package of release, which are the same twice, and run where nothing but the C library is,
+# and for the scripts Python. What words neither takes, what they leave where something is in the way, and that all is removed again.
 cd "$(dirname "$(readlink -f -- "$0")")/.." || exit 1
 . tests/check.bash
 prefix=$work/prefix
@@ -63,8 +63,8 @@ python3 tests/images.py elf64 "$work/app" .debug_line=examples/hello.debug_line 
 expect 'linetab-object beside it' 0 $'yes\n' '' "$prefix/bin/linetab-object" check "$work/app" examples/hello.csv
 expect 'by a link' 0 $'yes\n' '' \
   bash -c 'ln -s "$0/bin/linetab-object" "$1/link" && "$1/link" check "$1/app" examples/hello.csv' "$prefix" "$work"
-expect 'linetab-table beside it' 0 $'low,high,path,line\n0x1000,0x1004,/w/a.c,3\n' '' bash -c '"$0/bin/linetab-table" breakpad -' "$prefix" \
-  < <(printf 'MODULE Linux x86_64 0 a\nFILE 0 /w/a.c\nFUNC 1000 4 0 main\n1000 4 3 0\n')
+expect 'linetab-table beside it' 0 $'low,high,path,line\n0x1000,0x1004,/w/a.c,3\n' '' bash -c '"$0/bin/linetab-table" lines -' "$prefix" \
+  <<<'0x1000 0x1004 /w/a.c:3'
 documents() {
   local pages=(*.md LICENSE-* docs/*.md docs/*.svg bench/*.md)
   same 'documents' "$(printf '%s\n' "${pages[@]}" | LC_ALL=C sort)" \
@@ -294,6 +294,28 @@ release() {
   debian "$work/one/linetab_$(<VERSION)_amd64.deb" "$work/unpacked/$name"
   expect 'the package under a bare root' 0 $'yes\n' '' bash -c 'dpkg-deb -x "$0" "$1" && shift && "${@:2}"' "$work/one/linetab_$(<VERSION)_amd64.deb" \
     "$root" -- "${enter[@]}" "$root" /usr/bin/linetab check "${hello[@]}"
+  scripts_in "$root" "${enter[@]}"
+}
+
+# The scripts of the package under a root that also has Python, for which the package asks, and /proc.
+scripts_in() { # ROOT ENTER..
+  local python modules file enter=(unshare --mount --pid --fork)
+  [ "$2" = chroot ] || enter=(unshare --map-root-user --mount --pid --fork)
+  enter+=(bash -c 'mount -t proc proc "$0/proc" && exec chroot "$0" "$@"' "$1")
+  { read -r python; read -r modules; } < <(python3 -c 'import os, sys, sysconfig
+print(os.path.realpath(sys.executable), sysconfig.get_path("stdlib"), sep="\n")')
+  mkdir -p "$1/proc" "$1/tmp" "$1${python%/*}" "$1$modules"
+  cp "$python" "$1$python"
+  tar -C "$modules" --exclude=site-packages --exclude=dist-packages --exclude=test --exclude=__pycache__ -c . | tar -C "$1$modules" -x
+  while IFS= read -r file; do
+    mkdir -p "$1${file%/*}" && cp -L "$file" "$1$file"
+  done < <(ldd "$python" "$modules"/lib-dynload/*.so | grep -oE '/[^ :]+' | sort -u)
+  "${enter[@]}" "$python" -c '' 2>/dev/null || { skip "no root with Python and /proc can be entered"; return; }
+  python3 tests/images.py elf64 "$1/app" .debug_line=examples/hello.debug_line .debug_line_str=examples/hello.debug_line_str
+  echo '0x1000 /w/a.c:3' >"$1/lines"
+  expect 'linetab-object of the package under a bare root' 0 $'yes\n' '' "${enter[@]}" "$python" -S /usr/bin/linetab-object check app examples/hello.csv
+  expect 'linetab-table of the package under a bare root' 0 $'low,high,path,line\n0x1000,0x1001,/w/a.c,3\n' '' \
+    "${enter[@]}" "$python" -S /usr/bin/linetab-table lines lines
 }
 
 # The package of Debian has the files of the archive, owned by root, and says what it needs.

@@ -71,10 +71,13 @@ plainly() {
   sed -E '/^linetab: proved /{/\(([0-9]+) of \1\)/!d; s/lnt_[a-z_]+/NAME/}; s/[0-9]+ s$/N s/; s|'"$work"'|WORK|g' "$work/said" >&2
   return $status
 }
-# The crates below the program: all but those of callers, of tests, of the library and its own.
-all=$(cd crates && printf '%s\n' */ | grep -cvE '^(lnt_(example|ffi|surface|tests)|linetab)/')
+# How many crates are below a crate.
+below() {
+  bash -c 'top=$PWD; . ./sources.bash; below=(); uses "$0"; echo ${#below[@]}' "$1"
+}
+all=$(below linetab)
 section=$top/examples/hello.debug_line
-proving=$'linetab: proving and building the program, which takes some minutes the first time
+proving=$'linetab: proving and building the program, which takes a quarter of an hour or more the first time
 linetab: meanwhile `rt try -- WORD ..` in WORK/tree/crates/linetab answers in one to four minutes, interpreted and unproved, for files by their whole paths\n'
 
 without=$'linetab: to prove and build it, put rt on the PATH, the command of the Rattle toolchain (a compiler and prover of Rust with contracts; it is in no package registry: ask whoever gave you these sources)
@@ -212,9 +215,9 @@ done
 expect 'no library and no toolchain' 127 '' "linetab: the library isn't built from the sources as they are: WORK/tree/crates/lnt_ffi/out/liblnt_ffi.a"$'\n'"$without" \
   plainly without_rt bash -c '"$0" "$1" 2>&1 >/dev/null | sed "s/^library:/linetab:/" >&2; exit "${PIPESTATUS[0]}"' \
   "$tree/library" "$work/prefix"
-below=$(bash -c 'top=$PWD; . ./sources.bash; below=(); uses lnt_ffi; echo ${#below[@]}')
+below=$(below lnt_ffi)
 placed="library: under $work/prefix: lib/liblinetab.a, include/linetab.h, share/linetab/linetab_heap.c, lib/pkgconfig/linetab.pc; \`./install --uninstall $work/prefix\` removes them"$'\n'
-expect 'the library' 0 "$placed" $'library: proving and building it, which takes some minutes the first time
+expect 'the library' 0 "$placed" $'library: proving and building it, which takes a quarter of an hour or more the first time
 linetab: proved NAME ('"$below of $below"$'), N s\nlinetab: proving and compiling the library over them, N s\nlinetab: built in N s\n' \
   plainly with_rt "$tree/library" "$work/prefix"
 expect 'once built, nothing is asked of the toolchain for it' 0 "$placed" '' without_rt "$tree/library" "$work/prefix"
@@ -240,7 +243,7 @@ touch "$work/no_linetab"
 expect 'one that is not proved' 1 '' $'fn linetab::main: not proved\n' in_short "$tree/library" "$work/prefix"
 expect 'leaves that of before' 0 $'before\n' '' cat "$tree/crates/lnt_ffi/out/liblnt_ffi.a"
 rm "$work/no_linetab" "$work/asked"
-expect 'two that ask for it at once' 0 '' $'library: another one proves and builds it; waiting for it\nlibrary: proving and building it, which takes some minutes the first time\n' \
+expect 'two that ask for it at once' 0 '' $'library: another one proves and builds it; waiting for it\nlibrary: proving and building it, which takes a quarter of an hour or more the first time\n' \
   with_rt bash -c '{ "$0" "$1" & "$0" "$1"; wait; } 2>&1 >/dev/null | grep ^library: | sort >&2' "$tree/library" "$work/prefix"
 expect 'are one build of it' 0 $'ci\n' '' grep -x ci "$work/asked"
 

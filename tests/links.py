@@ -1,6 +1,7 @@
 """Looks whether each link of a page leads to a file and an anchor that are there; whether docs/README.md links each page of docs/;
-whether the pages of docs/ that other files name are there, and the files of crates that two pages name; how long the pages are; and
-how long the lines of crates are. It tries itself on pages with such faults."""
+whether the pages of docs/ that other files name are there, and the files of crates that two pages name; how long the pages are; how
+long the lines of crates are; and whether each example in the head of a crate stands in a caller that is compiled. It tries itself on
+pages with such faults."""
 
 import glob
 import os
@@ -18,6 +19,9 @@ NOT_LISTED = {"README.md"}
 LONGEST = {"README.md": 6144, "docs/*.md": 150000}
 # The most characters in a line of a crate, but for texts in quotes, and attributes, which `rt fmt` writes on one line.
 LONGEST_LINE = 140
+# The crates that callers begin with, each of which has an example, and those callers.
+ENTRIES = ["lnt_wire", "lnt_unit", "lnt_machine", "lnt_lines", "lnt_table", "lnt_cli"]
+CALLERS = ["crates/lnt_example/src/*.rt", "crates/lnt_surface/src/*.rt"]
 SOURCES = ["crates/*/src/**/*.rt", "crates/*/specs/**/*.antt", "crates/*/proofs/**/*.antt"]
 
 
@@ -104,6 +108,8 @@ def results(top):
     for picture in matching(top, ["docs/*.svg"]):
         yield wrong_picture(top, picture)
     yield long_line(top, matching(top, SOURCES))
+    for crate in ENTRIES:
+        yield wrong_example(top, crate)
     for pattern, most in LONGEST.items():
         size = sum(os.path.getsize(os.path.join(top, name)) for name in matching(top, [pattern]))
         yield None if size <= most else "%s has %d bytes, and should have at most %d" % (pattern, size, most)
@@ -116,6 +122,20 @@ def long_line(top, names):
             if len(line) > LONGEST_LINE and '"' not in line and not line.lstrip().startswith("#"):
                 return "%s:%d has %d characters, and should have at most %d" % (name, number, len(line), LONGEST_LINE)
     return None
+
+
+def wrong_example(top, crate):
+    """What is wrong with the example in the head of a crate, or None. Its lines stand together in one of the callers."""
+    name = "crates/%s/src/lib.rt" % crate
+    found = re.search(r"(?ms)^//! ```$(.*?)^//! ```$", read(top, name)) if matching(top, [name]) else None
+    if not found:
+        return "%s has no example" % name
+    example = [line.strip() for line in re.sub(r"(?m)^//!", "", found[1]).split("\n") if line.strip()]
+    for caller in matching(top, CALLERS):
+        lines = [line.strip() for line in read(top, caller).split("\n")]
+        if any(lines[at : at + len(example)] == example for at in range(len(lines))):
+            return None
+    return "%s has an example that no caller has" % name
 
 
 def wrong_picture(top, name):
@@ -131,7 +151,8 @@ def finds_its_faults():
     """What it finds of small pages with one fault of each kind."""
     with tempfile.TemporaryDirectory() as top:
         os.mkdir(os.path.join(top, "docs"))
-        os.makedirs(os.path.join(top, "crates/lnt_c/src"))
+        for crate in ("lnt_c", "lnt_wire", "lnt_unit", "lnt_example"):
+            os.makedirs(os.path.join(top, "crates/%s/src" % crate))
         texts = {
             "README.md": "# A page\n\n[there](docs/A.md#one-two) [gone](docs/B.md) [far](https://example.org/x)\n",
             "docs/README.md": "[here](#nowhere) [a](ARCHITECTURE.md) [b](WRONG_BODIES.md) `[no](link.md)`\n\n```\n[no](link.md)\n```\n",
@@ -139,6 +160,9 @@ def finds_its_faults():
             "docs/ARCHITECTURE.md": "| a | `lnt_a/specs/B.antt`, `C.antt`, `lnt_b`, `d.rt` |\n",
             "docs/WRONG_BODIES.md": "| a | `a/b` |\n",
             "script": "docs/C.md\n",
+            "crates/lnt_wire/src/lib.rt": "//! ```\n//! f(\n//!     1)?\n//! ```\n",
+            "crates/lnt_unit/src/lib.rt": "//! ```\n//! f(2)\n//! ```\n",
+            "crates/lnt_example/src/lib.rt": "{\n    f(\n        1)?\n}\n",
             "crates/lnt_c/src/c.rt": '"%s"\n#%s\n%s\n' % tuple(length * "é" for length in (140, 140, 141)),
             "docs/a.svg": "<svg>",
         }
@@ -160,6 +184,8 @@ WANTED = [
     "docs/ARCHITECTURE.md names crates/lnt_b/src/d.rt, which isn't there",
     "docs/WRONG_BODIES.md names a/b, which isn't there",
     "crates/lnt_c/src/c.rt:3 has 141 characters, and should have at most 140",
+    "crates/lnt_unit/src/lib.rt has an example that no caller has",
+    *("crates/%s/src/lib.rt has no example" % crate for crate in ENTRIES[2:]),
 ]
 
 

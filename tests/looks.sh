@@ -160,7 +160,7 @@ faults() {
   section first '1000:5 1004:6 1004:7 1008:8 1010'
   image app1 .debug_line=first code=0x1000,0x1000 symbol=f,0x1000,0x10
   printf 'low,high,path,line\n0x1000,0x1004,/s/a.c,5\n0x1004,0x1005,/s/a.c,6\n0x1005,0x1008,/s/a.c,7\n0x1008,0x1010,/s/a.c,8\n' >bad
-  cause 'the first of two rows' 'bad answers by the first of two rows at an address, as readers of GSYM files up to LLVM 17 do' 'read it by a later reader' app1 bad
+  cause 'the first of two rows' 'bad answers by the first of two rows at an address, as readers of GSYM files up to LLVM 17 do' 'read it with a newer reader' app1 bad
   section late '1008:8 1010:9 1020' '1020:12 1030'
   image app2 .debug_line=late code=0x1000,0x1000 symbol=early,0x1000,0x20 symbol=late,0x1020,0x10
   printf 'low,high,path,line\n0x1000,0x1020,/s/a.c,4\n0x1020,0x1030,/s/a.c,12\n' >bad
@@ -275,7 +275,7 @@ for line in open(\"lines\"):
   head -c 70 app >one/cut && cp app.sym two/cut.sym
   expect 'one that is cut' 3 $'one/app: two/app.sym: yes\n' "$says one/cut: its headers reach past the end of the file, or aren't whole: it is cut or damaged"$'\n' \
     bash -c 'object check -r one two >lines; status=$?; head -n 1 lines; exit $status'
-  expect 'no folder' 3 '' "$says app.sym: it is no folder"$'\n' object check -r one app.sym
+  expect 'no folder' 3 '' "$says app.sym: it isn't a folder"$'\n' object check -r one app.sym
   expect 'one folder' 2 '' $'error: check -r wants a folder of programs, and one of tables or symbol files\n\nUsage: linetab-object check [OPTIONS] <FILE> <SYMBOLS>\n\nFor more information, try \'--help\'.\n' \
     object check -r one
   expect 'a number that is none' 2 '' $'error: --jobs wants a number from 1 on, and not 0\n\nUsage: linetab-object verify [OPTIONS] <FILE>...\n\nFor more information, try \'--help\'.\n' \

@@ -1,6 +1,7 @@
 """Looks up each address of long sequences, and those around them, in several orders, and compares what is printed with the rows that
 were written: where all rows are kept, where a column is too large to be kept, and where there are too many; then texts of good and bad
-lines, which come whole or piece by piece. The last line is 'N passed, M failed'."""
+lines, which come whole or piece by piece. With ONLY=TEXT in the environment only those count whose names have this text. The last line is
+'N passed, M failed'."""
 
 import bisect
 import os
@@ -163,6 +164,8 @@ def main():
     passed = failed = 0
     with tempfile.TemporaryDirectory() as folder:
         for case, so in cases_of(os.path.join(folder, "section"), random.Random(52)):
+            if os.environ.get("ONLY", "") not in case:
+                continue
             passed, failed = passed + so, failed + (not so)
             if not so:
                 print("failed: %s" % case)

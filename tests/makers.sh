@@ -35,52 +35,12 @@ gsym() {
     [ "$?" -eq 3 ] && [ ! -s "$work/out" ] && [ "$(wc -l <"$work/err")" -eq 1 ] || wrong=$((wrong + 1))
   done
   expect 'a GSYM file that is cut anywhere' 0 $'0\n' '' echo $wrong
-  refuses 'no GSYM file' "it isn't a GSYM file" gsym tests/makers.sh
+  refuses 'no GSYM file' "it isn't a GSYM file" gsym tests/units.sh
   (head -c 4 "$work/little"; bytes 02; tail -c +6 "$work/little") >"$work/two"
   refuses 'a GSYM file of another version' 'GSYM version 2 is not supported' gsym "$work/two"
   python3 tests/gsym_file.py little "$work/shared" 20000
   expect 'a line table that many functions share' 3 '' "$says $work/shared: it is cut or damaged"$'\n' \
     timeout 60 "$work/bin/linetab-table" gsym "$work/shared"
-}
-
-breakpad() {
-  cat >"$work/sym" <<'END'
-MODULE Linux x86_64 000000000000000000000000000000000 app
-INFO CODE_ID 00
-FILE 0 /w/a.c
-FILE 7 /w/b, c.h
-INLINE_ORIGIN 0 twice
-FUNC m 1010 8 0 main
-1010 4 9 0
-1014 8 10 0
-FUNC 1000 10 0 first(int, char)
-INLINE 0 3 0 0 1004 2
-1000 4 3 0
-1004 2 18446744073709551 7
-1006 0 5 0
-1008 8 4 0
-PUBLIC 2000 0 _fini
-STACK CFI INIT 1000 10 .cfa: $rsp 8 +
-END
-  local lines=$'0x1000,0x1004,/w/a.c,3\n0x1004,0x1006,"/w/b, c.h",18446744073709551\n0x1008,0x1010,/w/a.c,4\n'
-  lines+=$'0x1010,0x1014,/w/a.c,9\n0x1014,0x1018,/w/a.c,10\n'
-  expect 'a symbol file' 0 "$three$lines" '' table breakpad "$work/sym"
-  expect 'from a pipe' 0 "$three$lines" '' bash -c 'cat "$work/sym" | table breakpad -'
-  expect 'with ends of lines of Windows' 0 "$three$lines" '' bash -c 'sed "s/$/\r/" "$work/sym" | table breakpad -'
-  expect 'with a base' 0 "$three${lines//0x1/0x401}" '' table breakpad "$work/sym" --base 0x400000
-  (cat "$work/sym"; printf 'FUNC 1008 20 0 other\n1008 20 77 0\nFUNC 1018 8 0 last\n101a 4 2 0\n1018 4 1 0\n') >"$work/more"
-  expect 'with ranges that overlap' 0 "$three$lines"$'0x1018,0x101c,/w/a.c,1\n' \
-    "$says note: left out, as they overlap one before: 1 function"$'\n'"$says note: left out, as they overlap one before: 1 line"$'\n' \
-    table breakpad "$work/more"
-  expect 'without notes' 0 "$three$lines"$'0x1018,0x101c,/w/a.c,1\n' '' table breakpad "$work/more" --quiet
-  (cat "$work/sym"; echo '1018 1 1 9') | sed 's/^FUNC 1000 10/FUNC 1000 1020/' >"$work/broken"
-  refuses 'a file that is not there' 'it has no FILE 9, which a line names' breakpad "$work/broken"
-  (cat "$work/sym"; echo nonsense) >"$work/broken"
-  refuses 'a line that is none' 'its line 17 is none of a symbol file of Breakpad, or has no FUNC before it' breakpad "$work/broken"
-  refuses 'no symbol file' "it isn't a symbol file of Breakpad: its first line isn't MODULE" breakpad tests/makers.sh
-  refuses 'an empty file' "it isn't a symbol file of Breakpad: it is empty" breakpad /dev/null
-  expect 'an address beyond 2^64' 3 '' "$says $work/sym: its addresses aren't below 2^64"$'\n' \
-    table breakpad "$work/sym" --base 0xfffffffffffff000
 }
 
 llvm_dwarfdump() {
@@ -179,7 +139,7 @@ lines() {
   expect 'lines from a pipe' 0 "$three$wanted" '' bash -c 'cat "$work/lines" | table lines -'
   (cat "$work/lines"; echo '1014 1018 /w/a.c:4:9') >"$work/more"
   expect 'lines with a column' 0 "$four$(sed 's/$/,0/' <<<"${wanted%$'\n'}")"$'\n' \
-    "$says note: left out, as they overlap one before: 1 line"$'\n' table lines "$work/more"
+    "$says note: left out, since they overlap an earlier one: 1 line"$'\n' table lines "$work/more"
   expect 'lines without answers' 0 "$three" '' table lines - <<<'0x1012 ??:?'
   refuses 'no line' 'it has no line: what should have written it failed, or wrote nothing' lines /dev/null
   printf '0x1010 /w/a.c:4\n0x1014 /w/a.c:1' >"$work/broken"
@@ -203,17 +163,18 @@ wrong_line() { # LINE REASON
 
 # What standard error is changes neither the table nor the status.
 streams() {
-  local wanted=$three$'0x1000,0x1004,/w/a.c,3\n0x1004,0x1006,"/w/b, c.h",18446744073709551\n0x1008,0x1010,/w/a.c,4\n'
-  wanted+=$'0x1010,0x1014,/w/a.c,9\n0x1014,0x1018,/w/a.c,10\n'
-  (cat "$work/sym"; printf 'FUNC 1008 20 0 other\n1008 20 77 0\n') >"$work/noted"
-  expect 'a note' 0 "$wanted" "$says note: left out, as they overlap one before: 1 function"$'\n' table breakpad "$work/noted"
-  expect 'a note on a closed standard error' 0 "$wanted" '' bash -c 'table breakpad "$work/noted" 2>&-'
-  expect 'a note on a full one' 0 "$wanted" '' bash -c 'table breakpad "$work/noted" 2>/dev/full'
-  expect 'a note on a terminal' 0 "$wanted" '' on_terminal "$work/bin/linetab-table" breakpad "$work/noted"
-  expect 'a refusal on a closed standard error' 3 '' '' bash -c 'table breakpad "$work/broken" 2>&-'
-  expect 'a refusal on a full one' 3 '' '' bash -c 'table breakpad "$work/broken" 2>/dev/full'
-  expect 'a refusal on a terminal' 3 '' '' on_terminal "$work/bin/linetab-table" breakpad "$work/broken"
-  expect 'wrong words on a full one' 2 '' '' bash -c 'table breakpad 2>/dev/full'
+  local wanted=$three$'0x1000,0x1004,/w/a.c,3\n0x1004,0x1006,"/w/b, c.h",18446744073709551\n'
+  printf '1000 1004 /w/a.c:3\n1004 1006 /w/b, c.h:18446744073709551\n1002 1006 /w/a.c:77\n' >"$work/noted"
+  echo nonsense >"$work/broken"
+  expect 'a note' 0 "$wanted" "$says note: left out, since they overlap an earlier one: 1 line"$'\n' table lines "$work/noted"
+  expect 'no note' 0 "$wanted" '' table lines "$work/noted" --quiet
+  expect 'a note on a closed standard error' 0 "$wanted" '' bash -c 'table lines "$work/noted" 2>&-'
+  expect 'a note on a full one' 0 "$wanted" '' bash -c 'table lines "$work/noted" 2>/dev/full'
+  expect 'a note on a terminal' 0 "$wanted" '' on_terminal "$work/bin/linetab-table" lines "$work/noted"
+  expect 'a refusal on a closed standard error' 3 '' '' bash -c 'table lines "$work/broken" 2>&-'
+  expect 'a refusal on a full one' 3 '' '' bash -c 'table lines "$work/broken" 2>/dev/full'
+  expect 'a refusal on a terminal' 3 '' '' on_terminal "$work/bin/linetab-table" lines "$work/broken"
+  expect 'wrong words on a full one' 2 '' '' bash -c 'table lines 2>/dev/full'
   expect 'an answer of points, on a closed one' 0 "$three"$'0x1000,0x1008,/w/a.c,3\n' '' \
     bash -c 'table points "$work/tools/plain-addr2line" "$work/small" 2>&-'
 }
@@ -222,13 +183,13 @@ streams() {
 short_of() {
   local memory file status wrong=0
   expect 'no room for the table' 3 '' "$says the table can't be written to a temporary file: File too large"$'\n' \
-    unwritten "$work/bin/linetab-table" breakpad "$work/sym"
+    unwritten "$work/bin/linetab-table" lines "$work/noted" --quiet
   # Python itself takes 12 MB to start.
   for ((memory = 13000; memory <= 20000; memory += 500)); do
-    (ulimit -v $memory; exec "$work/bin/linetab-table" breakpad "$work/sym") >"$work/out" 2>"$work/err"
+    (ulimit -v $memory; exec "$work/bin/linetab-table" lines "$work/noted" --quiet) >"$work/out" 2>"$work/err"
     status=$?
     case $status in
-      0) cmp -s "$work/out" <(table breakpad "$work/sym") || wrong=$((wrong + 1)) ;;
+      0) cmp -s "$work/out" <(table lines "$work/noted" --quiet) || wrong=$((wrong + 1)) ;;
       4) [ "$(<"$work/err")" = "$says out of memory" ] && [ ! -s "$work/out" ] || wrong=$((wrong + 1)) ;;
       *) wrong=$((wrong + 1)) ;;
     esac
@@ -263,8 +224,8 @@ points() {
   refuses_points 'one that ends' bad-addr2line 'no such day'
   expect 'one that is not there' 3 '' "$says $work/app: $work/none-addr2line can't be run: No such file or directory"$'\n' \
     table points "$work/none-addr2line" "$work/app"
-  expect 'no program' 3 '' "$says tests/makers.sh: it is a script: take the program that it runs"$'\n' \
-    table points "$work/tools/addr2line" tests/makers.sh
+  expect 'no program' 3 '' "$says tests/units.sh: it is a script: take the program that it runs"$'\n' \
+    table points "$work/tools/addr2line" tests/units.sh
   python3 tests/images.py elf64 "$work/app" .debug_line=examples/hello.debug_line code=0x1000,0x7000000000000000
   expect 'more code than a file has' 3 '' "$says $work/app: it has no code, or more than a file of its size has"$'\n' \
     table points "$work/tools/addr2line" "$work/app"
@@ -275,7 +236,7 @@ plain_points() {
   answerer plain-addr2line '{ print "/w/a.c:3" }'
 }
 refuses_points() { # NAME COMMAND REASON
-  expect "$1" 3 '' "$says $work/app: $work/tools/$2 doesn't answer of each address: $3"$'\n' table points "$work/tools/$2" "$work/app"
+  expect "$1" 3 '' "$says $work/app: $work/tools/$2 doesn't answer for each address: $3"$'\n' table points "$work/tools/$2" "$work/app"
 }
 
 whole_paths() {
@@ -296,12 +257,12 @@ whole_paths() {
 }
 
 words() {
-  local makers='gsym, gsym-17, breakpad, llvm-dwarfdump, readelf, lines, points' maker text
+  local makers='gsym, gsym-17, llvm-dwarfdump, readelf, lines, points' maker text
   expect 'no words' 2 '' "$says one of $makers is wanted first: linetab-table MAKER FILE [OPTIONS..]"$'\n' table
   expect 'another maker' 2 '' "$says one of $makers is wanted first: linetab-table MAKER FILE [OPTIONS..]"$'\n' table gdb file
   expect 'no file' 2 '' "$says linetab-table gsym FILE: no more and no less is wanted"$'\n' table gsym
   expect 'a word too many' 2 '' "$says linetab-table readelf FILE: no more and no less is wanted"$'\n' table readelf a b
-  expect 'an option of another maker' 2 '' "$says --base is for breakpad"$'\n' table readelf a --base 0x0
+  expect 'an option of another maker' 2 '' "$says --dead is for llvm-dwarfdump and readelf"$'\n' table gsym a --dead 0x0
   expect 'no address' 2 '' "$says argument --dead: an address is 0x and 1 to 16 hexadecimal digits, and 12 isn't"$'\n' \
     table readelf a --dead 12
   expect 'a bad option with an escape' 2 '' "$says unrecognized arguments: "'--\x1b[31mred'$'\n' table gsym file $'--\e[31mred'
@@ -312,7 +273,7 @@ words() {
     table points gdb app --like gdb
   expect 'like for another maker' 2 '' "$says --like is for points"$'\n' table lines file --like addr2line
   expect 'a file that is not there' 3 '' "$says none: cannot read it: No such file or directory"$'\n' table gsym none
-  expect 'a folder' 3 '' "$says tests: cannot read it: Is a directory"$'\n' table breakpad tests
+  expect 'a folder' 3 '' "$says tests: cannot read it: Is a directory"$'\n' table lines tests
   expect 'help' 0 $'usage: linetab-table MAKER FILE [OPTIONS..]\n' '' bash -c 'table --help | grep usage'
   for maker in $(tr -d , <<<"$makers"); do
     text="usage: linetab-table $maker FILE [OPTIONS..]"
@@ -321,7 +282,7 @@ words() {
     expect "the help of $maker, behind a file" 0 "$(table $maker --help)"$'\n' '' table $maker file -h
     expect "it begins with $maker" 0 "$maker"$'\n' '' bash -c 'table "$0" --help | sed -nE "1s/^([a-z0-9-]+) .*/\1/p"' $maker
   done
-  expect 'the options of breakpad' 0 $'--base\n--help\n--paths-of\n--quiet\n' '' options_of breakpad
+  expect 'the options of gsym' 0 $'--help\n--paths-of\n--quiet\n' '' options_of gsym
   expect 'the options of readelf' 0 $'--dead\n--help\n--paths-of\n--quiet\n--skip-copies\n' '' options_of readelf
   expect 'the options of points' 0 $'--help\n--like\n--paths-of\n--quiet\n' '' options_of points
   expect 'no version behind a maker' 2 '' "$says unrecognized arguments: --version"$'\n' table gsym file --version
@@ -430,7 +391,6 @@ lines_of_tools() {
 }
 
 gsym
-breakpad
 plain_points
 streams
 short_of

@@ -17,12 +17,12 @@ is_wanted() {
 # until a run meets no refusal.
 in_turn() {
   local name=$1 status n=0 met=0 wanted
+  is_chosen "$name" || return 0
   shift
   "$program" "$@" >"$work/wanted" 2>&1
   wanted=$?
   if [ "$wanted" -eq 4 ]; then
-    echo "failed: $name: with no request refused, status 4:" "$(head -c 200 "$work/wanted")"
-    failed=$((failed + 1))
+    fail "$name" "with no request refused, status 4: $(head -c 200 "$work/wanted")"
     return
   fi
   while [ "$n" -lt 500 ]; do
@@ -36,18 +36,16 @@ in_turn() {
       continue
     fi
     if [ "$status" -ne "$wanted" ] || ! is_wanted; then
-      echo "failed: $name: with request $n refused, status $status:" "$(head -c 200 "$work/both")"
-      failed=$((failed + 1))
+      fail "$name" "with request $n refused, status $status: $(head -c 200 "$work/both")"
       return
     fi
     [ -e "$work/met" ] || break
   done
   if [ "$met" -lt 10 ] || [ "$n" -eq 500 ]; then
-    echo "failed: $name: $met of $n requests were refused"
-    failed=$((failed + 1))
+    fail "$name" "$met of $n requests were refused"
     return
   fi
-  passed=$((passed + 1))
+  pass "$name"
 }
 
 in_turn 'one unit' units examples/hello.debug_line
@@ -71,6 +69,11 @@ in_turn 'a difference by path' check examples/hello.debug_line "$work/shorter" -
 in_turn 'a lookup' lookup examples/hello.debug_line 0x1137 --line-str examples/hello.debug_line_str
 in_turn 'a conversion' convert examples/hello.debug_line --format 64 --order big
 in_turn 'sums' md5 examples/hello-clang.debug_line --line-str examples/hello-clang.debug_line_str
+# Functions of which one overlaps another, in falling order, line records in order and not, a file twice, and one that no line names.
+printf 'MODULE a\nFILE 1 /a,b\nFILE 1 /c\nFUNC 20 10 0 f\n20 4 1 1\n24 4 2 2\nFUNC 28 2 0 g\nFUNC m 0 10 0 h\n8 8 3 1\n0 9 4 1\n0 8 5 1\n' >"$work/symbols"
+in_turn 'a symbol file' symbols "$work/symbols" --base 0x1000
+printf 'MODULE a\nFUNC 20 10 0 f\n20 4 1 1\n24 4 2\n' >"$work/broken"
+in_turn 'a symbol file with a fault' symbols "$work/broken"
 in_turn 'help' units --help
 in_turn 'no such file' units "$work/none"
 in_turn 'usage' units

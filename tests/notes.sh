@@ -36,10 +36,10 @@ looks() { # NAME DIGITS STDOUT TEXT: what looks so, to words that judge a sectio
 zeros=$(printf '%048d' 0)
 malformed='no 25 malformed at 0x0: truncated'
 looks 'an ELF file' "7f454c4602010100$zeros" "$malformed" \
-  'this looks like an ELF file; linetab-object takes its sections out, and does the word'
+  'this looks like an ELF file; use linetab-object, which extracts the sections itself'
 looks 'a PE file' "4d5a900003000000$zeros" "$malformed" \
-  'this looks like a PE file; linetab-object takes its sections out, and does the word'
-macho='this looks like a Mach-O file; linetab-object takes its sections out, and does the word'
+  'this looks like a PE file; use linetab-object, which extracts the sections itself'
+macho='this looks like a Mach-O file; use linetab-object, which extracts the sections itself'
 for magic in feedface feedfacf cefaedfe cffaedfe cafebabe; do
   put section "$magic$zeros"
   notes "a Mach-O file, $magic" 1 "$truncated" '' "$macho" verify "$work/section"
@@ -63,11 +63,11 @@ printf 'MODULE Linux x86_64 0 a\n' >"$work/symbols"
 notes 'a symbol file of Breakpad' 1 "$truncated" '' "$symbols" verify "$work/symbols"
 looks 'a GSYM file' "4d59534701000414$zeros" "$malformed" "$symbols"
 looks 'a big-endian GSYM file' "4753594d00010414$zeros" "$malformed" "$symbols"
-notes 'a program' 1 "$truncated" '' 'this looks like an ELF file; linetab-object takes its sections out, and does the word' \
+notes 'a program' 1 "$truncated" '' 'this looks like an ELF file; use linetab-object, which extracts the sections itself' \
   check "$program" examples/hello.csv
 input=$program
 notes 'a program on standard input' 1 "$truncated" '' \
-  'this looks like an ELF file; linetab-object takes its sections out, and does the word' units -
+  'this looks like an ELF file; use linetab-object, which extracts the sections itself' units -
 input=/dev/null
 notes 'a little-endian section taken as big-endian' 1 "$truncated" '' \
   'its length fits where the section is little-endian; leave out --big' verify "${hello[@]}" --big
@@ -207,7 +207,7 @@ faulty() { # NAME STDOUT NOTE TEXT
 names='low,low_op,high,high_op,unit,file,line,column,is_stmt'
 first=0x1129,0,0x1130,0,0,1,1,27,1
 second=0x1130,0,0x1137,0,0,1,1,36,1
-header="the table has to begin with $names or with this and ,isa,discriminator, or with low,high,path,line or with this and ,column"
+header="the first line has to be $names[,isa,discriminator], or low,high,path,line[,column]"
 faulty 'no header' 'no 36 table header' "$header" ''
 faulty 'another header' 'no 36 table header' "$header" "$first\n"
 rule='each record has as many fields as the header has names'

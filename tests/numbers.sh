@@ -31,13 +31,19 @@ def skeleton(text):
     return re.sub(r"\{[^}]*\}|\b[A-Z]+\b|(?<=0x)[A-Z]", "*", text)
 
 
-# Of each number the name and the text in code font on its row of the page.
-names, texts = {}, {}
-for numbers, name, text in re.findall(r"(?m)^\| (\d[\d, ]*)(?: `(\w+)`)? \| (.*?) \|", read("docs/NUMBERS.md")):
+def covers(general, text):
+    """Whether a text is another one with something in place of each asterisk."""
+    return re.fullmatch(re.escape(general).replace(r"\*", ".+"), text)
+
+
+# Of each number the name, other names of it, and the texts in code font on its row of the page.
+names, others, texts = {}, collections.defaultdict(list), {}
+for numbers, name, more, text in re.findall(r"(?m)^\| (\d[\d, ]*)(?: `(\w+)`((?:, `\w+`)*))? \| (.*?) \|", read("docs/NUMBERS.md")):
     name = name or (re.match(r"`(?:\w+::)?(\w+)`", text) or ["", ""])[1]
     for number in map(int, numbers.split(", ")):
         names.setdefault(number, name)
-        texts.setdefault(number, skeleton((re.match(r"`(.*?)`", text) or ["", ""])[1]))
+        others[number] += re.findall(r"\w+", more)
+        texts.setdefault(number, [skeleton(it) for it in re.findall(r"`(.*?)`", text)] or [""])
 judge(set(range(1, max(names) + 1)) == set(names), "the numbers of docs/NUMBERS.md have gaps")
 
 tests = "crates/lnt_tests/"
@@ -46,10 +52,10 @@ named = collections.defaultdict(set)
 for source, text in sources.items():
     for number, name in re.findall(r"/// (\d+): (?:.*\n +///)*.*\n +(\w+)(?=[,( {])", text):
         named[int(number)].add(name)
-        judge(names.get(int(number)) in (name, ""), "%s: %s is %s, which docs/NUMBERS.md doesn't call so" % (source, number, name))
+        judge(names.get(int(number)) in (name, "") or name in others[int(number)], "%s: %s is %s, which docs/NUMBERS.md doesn't call so" % (source, number, name))
     for number, line in re.findall(r'"no (\d+) ([^"]*)"', text):
-        line, row = skeleton("no %s %s" % (number, line)), texts.get(int(number), "")
-        judge(re.fullmatch(re.escape(line).replace(r"\*", ".+"), row), "%s: %r isn't %r" % (source, line, row))
+        line, rows = skeleton("no %s %s" % (number, line)), texts.get(int(number), [])
+        judge(any(covers(line, row) or covers(row, line) for row in rows), "%s: %r isn't one of %r" % (source, line, rows))
 # The types whose variants are 42 and 45 have no numbers, and 46 is no variant, since callers of the library get the two counts.
 judge(set(names) - set(named) == {42, 45, 46}, "the code has the numbers %s" % sorted(named))
 
@@ -58,7 +64,7 @@ reason = re.search(r"(?ms)^pub enum Reason \{$.*?^\}$", sources["crates/lnt_wire
 judge(len(reasons) == len(re.findall(r"/// \d+: ", reason)), "not each reason has a text")
 for name, text in reasons:
     number = next((number for number in range(1, 16) if names[number] == name), 0)
-    judge(number == 15 or skeleton(text) == texts.get(number), "the text of %s, %r, isn't that of docs/NUMBERS.md" % (name, text))
+    judge(number == 15 or skeleton(text) == texts.get(number, [""])[0], "the text of %s, %r, isn't that of docs/NUMBERS.md" % (name, text))
 
 told = re.findall(
     r"\b(?:Reason|RunFault|Stop|No|TableNo)::(\w+)[^=]*=> (?:\(|(?:FlatVerdict \{[^}]*?\.\.)?(?:numbered|placed|at)\((?:position, )?)(\d+)",

@@ -64,7 +64,7 @@ words() {
   expect 'a link to it' 0 "$table" '' bash -c 'ln -s "$0/bin/linetab-object" "$0/link" && "$0/link" table "$0/elf64"' "$work"
   expect 'no room for its sections' 3 "$says $work/elf64: its sections can't be written to a temporary file: none"$'\n' '' \
     bash -c 'set -o pipefail; (ulimit -f 0; object table "$work/elf64") 2>&1 | sed "s/: File too large$/: none/"'
-  expect 'no program beside it' 3 '' "$says the program linetab has to lie beside this one, and $work/alone/linetab isn't there"$'\n' \
+  expect 'no program beside it' 3 '' "$says the program linetab has to be beside this one, and $work/alone/linetab isn't there"$'\n' \
     bash -c 'mkdir "$0/alone" && cp linetab-object "$0/alone" && "$0/alone/linetab-object" table "$0/elf64"' "$work"
   expect 'a full device' 3 '' "$says cannot write"$'\n' bash -c 'object table "$0" >/dev/full' "$work/elf64"
 }
@@ -432,7 +432,14 @@ for version in (2, 3, 4):
         inner = struct.pack(order + "HI", version, len(numbers + tables)) + numbers + tables + program
         with open("%s%d%s" % (name, version, "big" if order == ">" else ""), "wb") as file:
             file.write(struct.pack(order + "I", len(inner)) + inner)
+inner = struct.pack("<HI", 4, len(numbers + tables)) + numbers + tables + program[:11] + b"\4\0" + program[11:]
+with open(name + "zero", "wb") as file:
+    file.write(struct.pack("<I", len(inner)) + inner)
 END
+  image elf64 unit .debug_line="$work/oldzero"
+  expect 'a row of file 0' 1 $'no 30 file number unit 0x0 row 0 file 0\n' "$says note: the unit is of version 4, where files count from 1: its \
+compiler left the file of that row open, and readers answer with none, with the first file or with the name of the unit; \
+compile with -gdwarf-5"$'\n' object table "$work/unit"
   local rust='rustc takes -C dwarf-version=5, and -O -C lto=fat for its standard library, which is of version 4'
   local version order
   for order in '' -big; do
@@ -490,17 +497,15 @@ copies of a function, or folded functions into one (--icf); --skip-copies leaves
   (bytes "43000000 $start $header 0009020010000000000000 144b0202 000101" "43000000 $start $header 0009020010000000000000 144b0200 000101") \
     >"$work/sizes"
   image elf64 unit .debug_line="$work/sizes"
-  expect_notes 'no copies' 1 $'no 32 overlap 0x0:0 0x47:0 at 0x1000,0\n' "$says note: two sequences hold 0x1000, and aren't of one size: \
-GNU ld and gold lead the line numbers of a discarded copy of an inline function to the copy that they kept, also where it is another \
-one, and --icf folds functions into one; link by lld or mold without --icf, or compile with -flto"$'\n' object verify "$work/unit"
+  local overlap="two different copies of an inline function overlap at 0x1000: GNU ld and gold point the line numbers of the copy that \
+they discard at the one that they keep, and --icf folds functions into one; link with lld or mold and without --icf, or compile with -flto"
+  expect_notes 'no copies' 1 $'no 32 overlap 0x0:0 0x47:0 at 0x1000,0\n' "$says note: $overlap"$'\n' object verify "$work/unit"
   expect_notes 'no copies, quiet' 1 $'no 32 overlap 0x0:0 0x47:0 at 0x1000,0\n' '' object verify "$work/unit" --quiet
   # Both, and discarded code.
   cat examples/hello.debug_line "$work/sizes" examples/hello.debug_line >"$work/both"
   image elf64 unit .debug_line="$work/both" "${hello[1]}"
   expect 'copies, and others' 1 "$("$linetab" verify "$work/both" --line-str examples/hello.debug_line_str --skip-copies)"$'\n' \
-    "$says note: two sequences hold 0x1000, and aren't of one size: GNU ld and gold lead the line numbers of a discarded copy of an \
-inline function to the copy that they kept, also where it is another one, and --icf folds functions into one; link by lld or mold \
-without --icf, or compile with -flto"$'\n' object verify "$work/unit"
+    "$says note: $overlap"$'\n' object verify "$work/unit"
   cat "$work/twice" examples/gc-sections.debug_line >"$work/both"
   image elf64 unit .debug_line="$work/both" "${dead[1]}" code=0x1000,0x100000
   expect_notes 'copies and discarded code' 0 $'0x10,0 none\n' "$says note: sequences begin at 0x0, where $work/unit has no code: the linker \
@@ -518,7 +523,7 @@ apart() {
   agrees 'a debug link, in .debug' app hello "$found $work/.debug/app.debug"$'\n'
   echo more >>"$work/.debug/app.debug"
   refuses 'a file of another program' app \
-    "it has no .debug_line, and $work/.debug/app.debug, which lies where its debug information should, is of another file"
+    "it has no .debug_line, and $work/.debug/app.debug, where its debug information should be, belongs to another file"
   rm "$work/.debug/app.debug"
   refuses 'a debug link to nothing' app \
     "$lost isn't in $work/app.debug or $work/.debug/app.debug or /usr/lib/debug$work/app.debug; $install"
@@ -537,7 +542,7 @@ apart() {
   image macho tool.dSYM/Contents/Resources/DWARF/tool "${hello[@]}" id=ff
   lost=$work/tool.dSYM/Contents/Resources/DWARF/tool
   refuses 'a Mach-O program with a dSYM of another' tool \
-    "it has no .debug_line, and $lost, which lies where its debug information should, is of another file"
+    "it has no .debug_line, and $lost, where its debug information should be, belongs to another file"
 }
 
 refusals() {
@@ -554,7 +559,7 @@ refusals() {
   image elf64 no "${hello[@]}" module && refuses 'a kernel module' no \
     "it is a kernel module, whose addresses aren't final before it is loaded: ld -Ttext=ADDRESS --unresolved-symbols=ignore-all \
 -e 0 -o LINKED FILE makes a file that has them, with ADDRESS of /sys/module/NAME/sections/.text"
-  image elf64 no "${hello[@]}" core && refuses 'a core file' no 'it is a core file: take the program that it is of'
+  image elf64 no "${hello[@]}" core && refuses 'a core file' no 'it is a core file: take the program that it came from'
   image elf64 no code=0x1000,0x1000 && refuses 'no debug information' no \
     "it has no .debug_line: compile and link it with -gdwarf-5, and don't strip it"
   image elf64 no .stab=tests/images.py code=0x1000,0x1000 && refuses 'stabs alone' no \
@@ -613,7 +618,7 @@ changes() {
 hostile() {
   local damaged="its headers reach past the end of the file, or aren't whole: it is cut or damaged"
   local torn="section .debug_line isn't what its compression header says: the file is damaged"
-  local many='it has more than 65536 headers of sections or commands, as no program has'
+  local many='it has more than 65536 headers of sections or commands, which no program has'
   local none='it has no .debug_line: compile'
   local link="it has no .debug_line, and its .gnu_debuglink isn't the name of a file"
   local name number
@@ -634,20 +639,20 @@ hostile() {
   expect 'units of four bytes' 1 $'no 25 malformed at 0x4: truncated\n' '' within table "$work/hostile/elf-units"
   image pe slash $'/\xb2'=/dev/null && costs 'a name that is a slash and no number' slash "$none with -gdwarf-5 by gcc or clang for mingw; a PDB has no DWARF"
   image elf64 twice "${hello[0]}" "${hello[0]}" && costs 'two sections of a name' twice \
-    'it has two sections .debug_line, and nothing says which of them is meant'
+    'it has two sections .debug_line, and nothing says which one is meant'
 
   head -c 64M /dev/zero >"$work/zeros"
   image elf64 lies z:.debug_line="$work/zeros" claims=100 && costs 'a compressed section that holds more than it says' lies "$torn"
   image elf64 lies gnu:.debug_line="$work/zeros" claims=100 && costs 'one in .zdebug' lies "$torn"
   number=$(python3 -c 'import zlib; print(len(zlib.compress(bytes(64 << 20))))')
   image elf64 lies z:.debug_line="$work/zeros" && costs 'one that holds very much' lies "section .debug_line stands for 67108864 bytes \
-by its compression header, and has $number: where that is true, objcopy --decompress-debug-sections unpacks it"
+by its compression header, and has $number: if that is true, objcopy --decompress-debug-sections unpacks it"
   if here 'a section that zstd made, which holds more than it says' zstd; then
     zstd -qc "$work/zeros" >"$work/zeros.zst"
     image elf64 lies zstd:.debug_line="$work/zeros.zst" claims=100 && costs 'one that zstd made' lies "$torn"
   fi
 
-  mkfifo "$work/pipe" && costs 'a pipe' pipe 'it is no regular file: write what it gives into one'
+  mkfifo "$work/pipe" && costs 'a pipe' pipe "it isn't a regular file: write its content into one"
   for name in ../etc/passwd "$work/pipe" /dev/stdin .. '' "$(printf 'n%.0s' {1..300})"; do
     image elf64 leads link="$name",/dev/null && costs "a debug link to ${name:0:20}" leads "$link"
   done

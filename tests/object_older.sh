@@ -88,7 +88,7 @@ directories() {
   tells 'a damaged .debug_info' app \
     "$one$none section .debug_info isn't what its compression header says: the file is damaged"$'\n' ''
   program elf64 app 4,/w twice
-  tells 'two of them' app "$one$none it has two sections .debug_info, and nothing says which of them is meant"$'\n' ''
+  tells 'two of them' app "$one$none it has two sections .debug_info, and nothing says which one is meant"$'\n' ''
 }
 
 # The directories of a program that `dwz -m` made stand in another file, which is known by its build id.

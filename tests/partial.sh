@@ -4,7 +4,7 @@
 cd "$(dirname "$(readlink -f -- "$0")")/.." || exit 1
 . tests/check.bash
 python3 tests/checks.py make --partial "$work/cases" 500 1 examples/hello*.debug_line || exit 1
-expect "cases" 0 $'500 passed, 0 failed\n' "" tests/cases/run "$program" "$work/cases"
+expect 'cases' 0 $'500 passed, 0 failed\n' '' env -u ONLY tests/cases/run "$program" "$work/cases"
 
 hello=(examples/hello.debug_line --line-str examples/hello.debug_line_str)
 says() { # NAME STATUS STDOUT STDERR WORD..

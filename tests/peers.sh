@@ -16,11 +16,11 @@ image() { # SECTION LINE_STR ORDER
 # same NAME: whether the texts `ours` and `theirs` are the same, and not empty.
 same() {
   if [ -s "$work/ours" ] && cmp -s "$work/ours" "$work/theirs"; then
-    passed=$((passed + 1))
+    pass "$1"
     return
   fi
-  failed=$((failed + 1))
-  echo "failed: $1"
+  fail "$1"
+  is_chosen "$1" || return 0
   diff "$work/theirs" "$work/ours" | head -n 10
 }
 
@@ -48,7 +48,7 @@ compare() { # SECTION LINE_STR ORDER DEAD
   local big= dead=()
   [ "$3" = big ] && big=--big
   [ "$4" = - ] || dead=(--dead "$4")
-  image "$1" "$2" "$3" || { failed=$((failed + 1)); echo "failed: no image of $1"; return; }
+  image "$1" "$2" "$3" || { fail "no image of $1"; return; }
   ./linetab dump $big "$1" | awk -f tests/peers/ours.awk >"$work/headers"
   cp "$work/headers" "$work/ours"
   llvm-dwarfdump --debug-line --verbose "$work/image" | awk -f tests/peers/llvm.awk >"$work/theirs"

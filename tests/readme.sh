@@ -20,10 +20,13 @@ not_run=docs/FOUND.md
 declare -A makes=(
   [parallel]=tables.log [dump_syms]= [llvm-gsymutil]=app.gsym [llvm-dwarfdump]= [eu-addr2line]= [gdb]= [lldb]= [objdump]= [perf]= [go]=
 )
+# Commands that read what such a tool made under several names.
+declare -A reads=(['linetab-object check -r store store']=parallel)
 
 # A tool that a command needs, or that makes the file which it reads, isn't here.
 lacks() { # COMMAND
   local tool
+  [ -z "${reads[$1]}" ] || here "$1" "${reads[$1]}" || return 0
   for tool in "${!makes[@]}"; do
     [[ " $1" == *" $tool "* || (-n ${makes[$tool]} && $1 == *"${makes[$tool]}"*) ]] || continue
     here "$1" "$tool" || return 0
@@ -43,11 +46,10 @@ runs() { # COMMAND [WANTED]
     status=0
   fi
   if [ "$status" -eq 0 ]; then
-    passed=$((passed + 1))
+    pass "$1"
   else
-    failed=$((failed + 1))
-    echo "failed: $1"
-    head -n 5 "$work/err"
+    fail "$1"
+    ! is_chosen "$1" || head -n 5 "$work/err"
   fi
 }
 

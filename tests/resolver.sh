@@ -41,7 +41,7 @@ refused 'a zero byte before all else' 2 'zero byte' 'FUNCTION\0000 1\n'
 printf '' >"$work/file"
 expect 'an empty file' 1 $'no 45 symbols line 1: not a symbol file\n' '' "$program" symbols "$work/file"
 expect_notes 'a program' 1 $'no 45 symbols line 1: not a symbol file\n' \
-  $'linetab: note: this looks like an ELF file; linetab-object takes its sections out, and does the word\n' "$program" symbols "$program"
+  $'linetab: note: this looks like an ELF file; use linetab-object, which extracts the sections itself\n' "$program" symbols "$program"
 expect_notes 'a bad base' 2 '' $'linetab: bad word 10\nlinetab: note: ADDRESS of --base is 0x and 1 to 16 hexadecimal digits\n' \
   "$program" symbols "$work/file" --base 10
 expect 'standard input' 0 "$table" '' bash -c 'printf "MODULE \n$1" | "$0" symbols -' "$program" "$own"

@@ -37,17 +37,17 @@ our_rows() { # N ORDER SIZE LEAST
 }
 compare() { # N ORDER SIZE LEAST NAME
   local name=${5#*/}
+  is_chosen "$5" || return 0
   our_rows "$1" "$2" "$3" "$4" >"$work/ours" 2>"$work/err"
   llvm-dwarfdump --debug-line "$work/$1" 2>"$work/err" | awk -f tests/peers/llvm_rows.awk >"$work/theirs"
   if cmp -s "$work/ours" "$work/theirs"; then
     [ -z "${differs[$name]}" ] || echo "as llvm-dwarfdump has it, and is named as one that differs: $5"
-    passed=$((passed + 1))
+    pass "$5"
   elif [ -n "${differs[$name]}" ]; then
     echo "differs: $5: ${differs[$name]}"
-    passed=$((passed + 1))
+    pass "$5"
   else
-    failed=$((failed + 1))
-    echo "failed: $5"
+    fail "$5"
     diff "$work/theirs" "$work/ours" | head -n 10
   fi
 }
@@ -62,7 +62,7 @@ packages=()
 for package in "$folder"/*.orig*.tar.*; do
   [[ $package == *.asc || ! -e $package ]] || packages+=("$package")
 done
-python3 -B tests/suites.py "$work" "${packages[@]}" >"$work/sections" || { failed=$((failed + 1)); echo "failed: the packages aren't read"; }
+python3 -B tests/suites.py "$work" "${packages[@]}" >"$work/sections" || fail "the packages aren't read"
 sed -n 's/^- /left out: /p' "$work/sections"
 while read -r number order size least _ name; do
   compare "$number" "$order" "$size" "$least" "$name"

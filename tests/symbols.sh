@@ -10,15 +10,15 @@ of_program() { # COMMAND TOOL..
   bench/symbols "$1" >"$work/rows" 2>"$work/said"
   while IFS= read -r line; do
     case $line in
-      *'**'*) failed=$((failed + 1)) && echo "failed: $line" ;;
+      *'**'*) fail "$line" ;;
       *'makes none'*) skip "$line" ;;
-      *) passed=$((passed + 1)) ;;
+      *) pass "$line" ;;
     esac
   done < <(sed 1,2d "$work/rows")
   while IFS= read -r line; do
     case $line in
       'not here: '*) skip "${line#not here: } isn't here: symbol files of $1" ;;
-      *) failed=$((failed + 1)) && echo "failed: $line" ;;
+      *) fail "$line" ;;
     esac
   done <"$work/said"
 }

@@ -5,6 +5,9 @@ cd "$(dirname "$(readlink -f -- "$0")")/.." || exit 1
 . tests/check.bash
 . tests/unit.bash
 
+# The worked units and their operations, by name.
+eval "$(python3 tests/worked.py units)"
+
 # Units and their parts are hexadecimal digits here. A number of 4 bytes, low byte first.
 number() {
   printf '%02x%02x%02x%02x' $(($1 & 255)) $(($1 >> 8 & 255)) $(($1 >> 16 & 255)) $(($1 >> 24 & 255))
@@ -41,10 +44,6 @@ repeated() { # BYTE COUNT
     printf '%s' "$1"
   done
 }
-
-# Two rows and an end, one directory, two files. In the 64-bit format and big-endian it is the second.
-plain=43000000$start${header}0009020010000000000000144b0202000101
-wide=ffffffff0000000000000047000508000000000000000029${header}0009020000000000001000144b0202000101
 
 # A header with two opcodes that DWARF 5 doesn't know: 13 has two operands, and 14 has none.
 unknown=010101fb0e0f${lengths}0200$directories$files
@@ -101,18 +100,18 @@ comes_back() {
 
 # cut NAME UNIT [--big]: each part from its first byte on is cut short at the unit.
 cut() {
-  local k given name=$1 size=$((${#2} / 2))
+  local k given name="$1, cut" size=$((${#2} / 2))
+  is_chosen "$name" || return 0
   bytes "$2" >"$work/unit"
   for ((k = 1; k < size; k++)); do
     head -c "$k" "$work/unit" >"$work/cut"
     given=$("$program" units "${@:3}" "$work/cut")
     if [ $? -ne 1 ] || [ "$given" != 'no 25 malformed at 0x0: truncated' ]; then
-      failed=$((failed + 1))
-      echo "failed: $name, cut after $k bytes: $given"
+      fail "$name" "after $k bytes: $given"
       return
     fi
   done
-  passed=$((passed + 1))
+  pass "$name"
 }
 
 # worked NAME UNIT HEADER OPERATIONS ROWS
@@ -125,91 +124,55 @@ worked() {
   cut "$1" "$2"
 }
 
-plain_ops='set_address 0x1000;special 20;special 75;advance_pc 2;end_sequence'
+# works NAME HEADER ROWS: a unit of tests/worked.py.
+works() {
+  worked "$1" "${!1}" "$2" "${operations[$1]}" "$3"
+}
+
 plain_rows='0x1000 0 1 3 0 1 - 0 0;0x1004 0 1 4 0 1 - 0 0;0x1006 0 1 4 0 1 e 0 0'
 
 worked_units() {
-  worked 'the plain unit' "$plain" "$fields$tables" "$plain_ops" "$plain_rows"
-  worked 'two rows at one address' "$(unit "$header" "$at 14 0306 01 0204 $end")" "$fields$tables" \
-    'set_address 0x1000;special 20;advance_line 6;copy;advance_pc 4;end_sequence' \
-    '0x1000 0 1 3 0 1 - 0 0;0x1000 0 1 9 0 1 - 0 0;0x1004 0 1 9 0 1 e 0 0'
-  worked 'an end alone' "$(unit "$header" "$at $rows $end 0009020210000000000000 $end")" "$fields$tables" \
-    "$plain_ops;set_address 0x1002;end_sequence" "$plain_rows;0x1002 0 1 1 0 1 e 0 0"
-  worked 'three operations per instruction' \
-    "$(unit "1003${header:4}" "0009020020000000000000 14 0202 01 0202 0301 01 0202 $end")" \
-    $'header 8 16 3 1 -5 14 13\n'"$tables" \
-    'set_address 0x2000;special 20;advance_pc 2;copy;advance_pc 2;advance_line 1;copy;advance_pc 2;end_sequence' \
+  local name
+  works plain "$fields$tables" "$plain_rows"
+  works two_rows_at_one_address "$fields$tables" '0x1000 0 1 3 0 1 - 0 0;0x1000 0 1 9 0 1 - 0 0;0x1004 0 1 9 0 1 e 0 0'
+  works empty_sequence "$fields$tables" "$plain_rows;0x1002 0 1 1 0 1 e 0 0"
+  works three_operations_per_instruction $'header 8 16 3 1 -5 14 13\n'"$tables" \
     '0x2000 0 1 3 0 1 - 0 0;0x2000 2 1 3 0 1 - 0 0;0x2010 1 1 4 0 1 - 0 0;0x2020 0 1 4 0 1 e 0 0'
-  worked 'the advance of special opcode 255' "$(unit "$header" "$at 14 08 01 0201 $end")" "$fields$tables" \
-    'set_address 0x1000;special 20;const_add_pc;copy;advance_pc 1;end_sequence' \
-    '0x1000 0 1 3 0 1 - 0 0;0x1011 0 1 3 0 1 - 0 0;0x1012 0 1 3 0 1 e 0 0'
-  worked 'an advance that is not scaled' "$(unit "0402${header:4}" "$at 14 0201 090500 01 0202 $end")" \
-    $'header 8 4 2 1 -5 14 13\n'"$tables" \
-    'set_address 0x1000;special 20;advance_pc 1;fixed_advance_pc 5;copy;advance_pc 2;end_sequence' \
-    '0x1000 0 1 3 0 1 - 0 0;0x1005 0 1 3 0 1 - 0 0;0x1009 0 1 3 0 1 e 0 0'
-  worked 'nine standard opcodes' "$(unit "010101fb0e0a 000101010100000001 $directories $files" "$at 0309 0a 0202 $end")" \
-    $'header 8 1 1 1 -5 14 10\n'"$tables" \
-    'set_address 0x1000;advance_line 9;special 10;advance_pc 2;end_sequence' \
-    '0x1000 0 1 5 0 1 - 0 0;0x1002 0 1 5 0 1 e 0 0'
-  worked 'unknown standard opcodes' "$(unit "$unknown" "$at 0d800105 0e 16 0202 $end")" \
-    $'header 8 1 1 1 -5 14 15\n'"$tables" \
-    'set_address 0x1000;unknown_standard 13 128 5;unknown_standard 14;special 22;advance_pc 2;end_sequence' \
-    '0x1000 0 1 3 0 1 - 0 0;0x1002 0 1 3 0 1 e 0 0'
-  worked 'one file' "$(unit "${numbers}${lengths}${directories}020108020b01612e630000" "$at $rows $end")" \
-    "$fields"$'dir 0 1="/s"\nfile 0 1="a.c" 2=0\n' "$plain_ops" "$plain_rows"
-  worked 'rows of file 0' "$(unit "${numbers}${lengths}${directories}020108020b01612e630000" "$at 0400 $rows $end")" \
-    "$fields"$'dir 0 1="/s"\nfile 0 1="a.c" 2=0\n' \
-    'set_address 0x1000;set_file 0;special 20;special 75;advance_pc 2;end_sequence' \
-    '0x1000 0 0 3 0 1 - 0 0;0x1004 0 0 4 0 1 - 0 0;0x1006 0 0 4 0 1 e 0 0'
-  worked 'an address that wraps' "$(unit "$header" "000902f0ffffffffffffff 14 0210 $end")" "$fields$tables" \
-    'set_address 0xfffffffffffffff0;special 20;advance_pc 16;end_sequence' \
-    '0xfffffffffffffff0 0 1 3 0 1 - 0 0;0x0 0 1 3 0 1 e 0 0'
-  worked 'marks and a discriminator' "$(unit "$header" "$at 00020407 0a 07 $rows $end")" "$fields$tables" \
-    'set_address 0x1000;set_discriminator 7;set_prologue_end;set_basic_block;special 20;special 75;advance_pc 2;end_sequence' \
-    '0x1000 0 1 3 0 1 bp 0 7;0x1004 0 1 4 0 1 - 0 0;0x1006 0 1 4 0 1 e 0 0'
-  worked 'all marks, an instruction set and a column' "$(unit "$header" "$at 0c05 0508 0a 0b 07 14 0201 $end")" "$fields$tables" \
-    'set_address 0x1000;set_isa 5;set_column 8;set_prologue_end;set_epilogue_begin;set_basic_block;special 20;advance_pc 1;end_sequence' \
-    '0x1000 0 1 3 8 1 bpg 5 0;0x1001 0 1 3 8 1 e 5 0'
-  worked 'two sequences' "$(unit "$header" "$at 06 14 0201 $end 0009020020000000000000 14 0201 $end")" "$fields$tables" \
-    'set_address 0x1000;negate_stmt;special 20;advance_pc 1;end_sequence;set_address 0x2000;special 20;advance_pc 1;end_sequence' \
-    '0x1000 0 1 3 0 0 - 0 0;0x1001 0 1 3 0 0 e 0 0;0x2000 0 1 3 0 1 - 0 0;0x2001 0 1 3 0 1 e 0 0'
-  worked 'sequences that touch' "$(unit "$header" "$at 14 0201 $end 0009020110000000000000 14 0201 $end")" "$fields$tables" \
-    'set_address 0x1000;special 20;advance_pc 1;end_sequence;set_address 0x1001;special 20;advance_pc 1;end_sequence' \
-    '0x1000 0 1 3 0 1 - 0 0;0x1001 0 1 3 0 1 e 0 0;0x1001 0 1 3 0 1 - 0 0;0x1002 0 1 3 0 1 e 0 0'
-  worked 'sequences with a gap' "$(unit "$header" "$at 14 0201 $end 0009020020000000000000 14 0201 $end")" "$fields$tables" \
-    'set_address 0x1000;special 20;advance_pc 1;end_sequence;set_address 0x2000;special 20;advance_pc 1;end_sequence' \
-    '0x1000 0 1 3 0 1 - 0 0;0x1001 0 1 3 0 1 e 0 0;0x2000 0 1 3 0 1 - 0 0;0x2001 0 1 3 0 1 e 0 0'
+  works const_add_pc "$fields$tables" '0x1000 0 1 3 0 1 - 0 0;0x1011 0 1 3 0 1 - 0 0;0x1012 0 1 3 0 1 e 0 0'
+  works fixed_advance_pc $'header 8 4 2 1 -5 14 13\n'"$tables" '0x1000 0 1 3 0 1 - 0 0;0x1005 0 1 3 0 1 - 0 0;0x1009 0 1 3 0 1 e 0 0'
+  works opcode_base_10 $'header 8 1 1 1 -5 14 10\n'"$tables" '0x1000 0 1 5 0 1 - 0 0;0x1002 0 1 5 0 1 e 0 0'
+  works opcode_base_15 $'header 8 1 1 1 -5 14 15\n'"$tables" '0x1000 0 1 3 0 1 - 0 0;0x1002 0 1 3 0 1 e 0 0'
+  local one_file=$'dir 0 1="/s"\nfile 0 1="a.c" 2=0\n'
+  works one_file_from_zero "$fields$one_file" "$plain_rows"
+  works file_zero "$fields$one_file" '0x1000 0 0 3 0 1 - 0 0;0x1004 0 0 4 0 1 - 0 0;0x1006 0 0 4 0 1 e 0 0'
+  works address_wraps "$fields$tables" '0xfffffffffffffff0 0 1 3 0 1 - 0 0;0x0 0 1 3 0 1 e 0 0'
+  for name in marks_and_discriminator flags_and_discriminator; do
+    works $name "$fields$tables" '0x1000 0 1 3 0 1 bp 0 7;0x1004 0 1 4 0 1 - 0 0;0x1006 0 1 4 0 1 e 0 0'
+  done
+  works all_marks "$fields$tables" '0x1000 0 1 3 8 1 bpg 5 0;0x1001 0 1 3 8 1 e 5 0'
+  works two_sequences "$fields$tables" '0x1000 0 1 3 0 0 - 0 0;0x1001 0 1 3 0 0 e 0 0;0x2000 0 1 3 0 1 - 0 0;0x2001 0 1 3 0 1 e 0 0'
+  works touching_sequences "$fields$tables" '0x1000 0 1 3 0 1 - 0 0;0x1001 0 1 3 0 1 e 0 0;0x1001 0 1 3 0 1 - 0 0;0x1002 0 1 3 0 1 e 0 0'
+  works parted_sequences "$fields$tables" '0x1000 0 1 3 0 1 - 0 0;0x1001 0 1 3 0 1 e 0 0;0x2000 0 1 3 0 1 - 0 0;0x2001 0 1 3 0 1 e 0 0'
   # Each sequence begins with the registers as they were at the start. Operations without a row may follow the last.
-  worked 'registers of a second sequence' "$(unit "$header" "$at 06 0509 14 0201 $end $at 14 0201 $end 06")" "$fields$tables" \
-    'set_address 0x1000;negate_stmt;set_column 9;special 20;advance_pc 1;end_sequence;set_address 0x1000;special 20;advance_pc 1;end_sequence;negate_stmt' \
-    '0x1000 0 1 3 9 0 - 0 0;0x1001 0 1 3 9 0 e 0 0;0x1000 0 1 3 0 1 - 0 0;0x1001 0 1 3 0 1 e 0 0'
-  worked 'a directory among the line strings' "$(unit "${numbers}${lengths}01011f0100000000$files" "$at $rows $end")" \
-    "$fields"$'dir 0 1=line_strp:0x0\nfile 0 1="a.c" 2=0\nfile 1 1="a.c" 2=0\n' "$plain_ops" "$plain_rows"
-  worked 'a sum and no program' \
-    "$(unit "${numbers}${lengths}${directories}030108020b051e01612e630000d41d8cd98f00b204e9800998ecf8427e" '')" \
-    "$fields"$'dir 0 1="/s"\nfile 0 1="a.c" 2=0 5=d41d8cd98f00b204e9800998ecf8427e\n' '' ''
-  local block=$'dir 0 1="/s" 8193=block:aabb\nfile 0 1="a.c" 2=0\nfile 1 1="a.c" 2=0\n'
-  worked 'a block with a length of 1 byte' "$(unit "${numbers}${lengths}020108 81400a 01 2f7300 02aabb $files" "$at $rows $end")" \
-    "$fields$block" "$plain_ops" "$plain_rows"
-  worked 'a block with a length of 2 bytes' "$(unit "${numbers}${lengths}020108 814003 01 2f7300 0200aabb $files" "$at $rows $end")" \
-    "$fields$block" "$plain_ops" "$plain_rows"
-  worked 'a block with a length of 4 bytes' "$(unit "${numbers}${lengths}020108 814004 01 2f7300 02000000aabb $files" "$at $rows $end")" \
-    "$fields$block" "$plain_ops" "$plain_rows"
-  worked 'bytes after the files' "$(unit "${header}aabb" "$at $rows $end")" "$fields$tables" "$plain_ops" "$plain_rows"
+  works second_registers "$fields$tables" '0x1000 0 1 3 9 0 - 0 0;0x1001 0 1 3 9 0 e 0 0;0x1000 0 1 3 0 1 - 0 0;0x1001 0 1 3 0 1 e 0 0'
+  works line_strp_directory "$fields"$'dir 0 1=line_strp:0x0\nfile 0 1="a.c" 2=0\nfile 1 1="a.c" 2=0\n' "$plain_rows"
+  works listed "$fields"$'dir 0 1="/s"\nfile 0 1="a.c" 2=0 5=d41d8cd98f00b204e9800998ecf8427e\n' ''
+  for name in vendor_block{1,2,4}; do
+    works $name "$fields"$'dir 0 1="/s" 8193=block:aabb\nfile 0 1="a.c" 2=0\nfile 1 1="a.c" 2=0\n' "$plain_rows"
+  done
+  worked 'bytes after the files' "$(unit "${header}aabb" "$at $rows $end")" "$fields$tables" "${operations[plain]}" "$plain_rows"
 
   # What isn't written as it was read, or isn't little-endian.
-  local padded
-  padded=$(unit "$header" "$at 144b 028200 $end")
   text=$'unit 0x0 32 68\n'$fields$tables
-  listed op "$plain_ops"
+  listed op "${operations[plain]}"
   listed row "$plain_rows"
-  prints 'a padded operand' 0 "$padded" "$text" dump --ops --rows
-  converts 'a padded operand, written' "$padded" "$plain" 32 little
+  prints 'a padded operand' 0 "$padded_operand" "$text" dump --ops --rows
+  converts 'a padded operand, written' "$padded_operand" "$plain" 32 little
   converts 'a padded count of directories, written' \
     "$(unit "${numbers}${lengths}010108 8100 2f7300 $files" "$at $rows $end")" "$plain" 32 little
-  cut 'a padded operand' "$padded"
+  cut 'a padded operand' "$padded_operand"
   text=$'unit 0x0 64 71\n'$fields$tables
-  listed op "$plain_ops"
+  listed op "${operations[plain]}"
   listed row "$plain_rows"
   prints 'the wide unit' 0 "$wide" "$text" dump --ops --rows --big
   cut 'the wide unit' "$wide" --big

@@ -233,7 +233,7 @@ def stored(descriptor):
 def opened(path):
     """The bytes of a regular file. No other file is opened: a pipe could be waited for without an end."""
     if not stat.S_ISREG(os.stat(path).st_mode):
-        raise Refusal("it is no regular file: write what it gives into one")
+        raise Refusal("it isn't a regular file: write its content into one")
     descriptor = os.open(path, os.O_RDONLY)
     try:
         return stored(descriptor)
@@ -257,7 +257,7 @@ def few(headers):
     """These headers, which are refused where they are more than any program has."""
     for count, header in enumerate(headers):
         if count == MOST:
-            raise Refusal("it has more than %d headers of sections or commands, as no program has" % MOST)
+            raise Refusal("it has more than %d headers of sections or commands, which no program has" % MOST)
         yield header
 
 

@@ -6,7 +6,7 @@ from scripts.object.image import READERS
 
 HEAD = 1 << 12  # bytes that tell it
 
-# Those that a maker reads are named as the maker is.
+# Those that a maker of linetab-table reads are named as the maker is.
 BREAKPAD, GSYM, LLVM, READELF, LINES = "breakpad", "gsym", "llvm-dwarfdump", "readelf", "lines"
 PROGRAM, TABLE = "points", "table"
 NAMES = {
@@ -70,7 +70,8 @@ def foreign(maker, head, name):
         return "it is an address table already: linetab-object check PROGRAM %s compares it with a program" % name
     if kind == PROGRAM:
         return "it is a program: " + OF_PROGRAM[maker] % name
-    return "it is %s: linetab-table %s %s" % (NAMES[kind], kind, name)
+    reader = "linetab symbols" if kind == BREAKPAD else "linetab-table " + kind
+    return "it is %s: %s %s" % (NAMES[kind], reader, name)
 
 
 # What a maker reads of a program.
@@ -78,7 +79,6 @@ OF_GSYM = "llvm-gsymutil --convert %s --out-file FILE makes a GSYM file of it"
 OF_PROGRAM = {
     "gsym": OF_GSYM,
     "gsym-17": OF_GSYM,
-    "breakpad": "dump_syms %s | linetab-table breakpad -",
     "llvm-dwarfdump": "llvm-dwarfdump --debug-line %s | linetab-table llvm-dwarfdump -",
     "readelf": "readelf --wide --debug-dump=decodedline %s | linetab-table readelf -",
     "lines": "linetab-table points addr2line %s asks one about each address of its code",

@@ -83,7 +83,7 @@ class Files(unittest.TestCase):
                 data.whole[0]
 
     def test_no_other_file_is_opened(self):
-        with self.assertRaisesRegex(Refusal, "no regular file"):
+        with self.assertRaisesRegex(Refusal, "isn't a regular file"):
             opened("/dev/null")
         self.assertIsNone(bounded.place_of(os.stat("/dev/null")))
 

@@ -35,14 +35,14 @@ class Words(unittest.TestCase):
 
     def test_what_is_asked(self):
         asked = command.asked_for(["readelf", "--dead", "0x0", "-", "--skip-copies"])
-        self.assertEqual((asked.maker, asked.file, asked.dead, asked.skip_copies, asked.base), ("readelf", "-", 0, True, None))
+        self.assertEqual((asked.maker, asked.file, asked.dead, asked.skip_copies, asked.like), ("readelf", "-", 0, True, None))
         asked = command.asked_for(["points", "llvm-symbolizer", "app"])
         self.assertEqual((asked.command, asked.file), ("llvm-symbolizer", "app"))
 
     def test_what_is_refused(self):
         for typed, text in (
-            ([], "one of gsym, gsym-17, breakpad"), (["gdb", "a"], "one of gsym"), (["gsym"], "linetab-table gsym FILE"),
-            (["gsym", "a", "b"], "linetab-table gsym FILE"), (["readelf", "a", "--base", "0x0"], "--base is for breakpad"),
+            ([], "one of gsym, gsym-17, llvm-dwarfdump"), (["gdb", "a"], "one of gsym"), (["gsym"], "linetab-table gsym FILE"),
+            (["gsym", "a", "b"], "linetab-table gsym FILE"), (["readelf", "a", "--like", "addr2line"], "--like is for points"),
             (["gsym-17", "a", "--dead", "0x0"], "--dead is for llvm-dwarfdump and readelf"), (["readelf", "a", "--dead", "12"], "12 isn't"),
             (["points", "gdb", "app"], "COMMAND is an addr2line"),
         ):
@@ -65,9 +65,9 @@ class Helps(unittest.TestCase):
 class Tables(unittest.TestCase):
     def test_of_each_file(self):
         with tempfile.NamedTemporaryFile() as file:
-            file.write(b"MODULE Linux x86_64 0 app\nFILE 0 /a.c\nFUNC 0 4 0 f\n0 2 1 0\n2 2 1 0\n")
+            file.write(b"0x10 0x12 /a.c:1\n0x12 0x14 /a.c:1\n")
             file.flush()
-            asked = command.asked_for(["breakpad", file.name, "--base", "0x10"])
+            asked = command.asked_for(["lines", file.name])
             self.assertEqual(b"".join(command.table_for(asked)), b"low,high,path,line\n0x10,0x14,/a.c,1\n")
 
     def test_columns(self):
@@ -87,7 +87,7 @@ class Tables(unittest.TestCase):
                 self.assertEqual(b"".join(command.table_for(command.asked_for(["lines", file.name]))), table)
 
     def test_each_maker_has_a_name(self):
-        self.assertEqual(list(command.MAKERS), ["gsym", "gsym-17", "breakpad", "llvm-dwarfdump", "readelf", "lines", "points"])
+        self.assertEqual(list(command.MAKERS), ["gsym", "gsym-17", "llvm-dwarfdump", "readelf", "lines", "points"])
 
 
 if __name__ == "__main__":

@@ -65,7 +65,7 @@ class Spans(unittest.TestCase):
         with heard() as ear:
             self.assertEqual(spans(b"10 20 /a:1", b"18 /b:2", b"18 28 /a:1")[0], [(0x10, 0x20, A)])
             self.assertEqual(spans(b"10 20 /a:1", b"18 /a:1", b"1f 28 /a:1", b"10 /a:1")[0], [(0x10, 0x28, A)])
-        self.assertEqual(ear.notes, ["left out, as they overlap one before: 2 lines"])
+        self.assertEqual(ear.notes, ["left out, since they overlap an earlier one: 2 lines"])
 
     def test_what_is_none(self):
         for lines, text in (([b""], "it has no line"), ([], "it has no line"), ([b"10 /a:1", b"10"], "its line 2 has nothing in place of PATH")):

@@ -29,7 +29,7 @@ class Apart(unittest.TestCase):
     def test_what_overlaps_is_left_out_and_told(self):
         with heard() as ear:
             self.assertEqual(list(apart([(1, 5, A), (2, 3, B), (4, 6, A), (5, 7, B)], "line")), [(1, 5, A), (5, 7, B)])
-        self.assertEqual(ear.notes, ["left out, as they overlap one before: 2 lines"])
+        self.assertEqual(ear.notes, ["left out, since they overlap an earlier one: 2 lines"])
 
     def test_nothing_is_told_where_nothing_does(self):
         with heard() as ear:

@@ -58,8 +58,8 @@ class Sums(unittest.TestCase):
         self.assertEqual(found.right(), 76)
         self.assertEqual(dict(found.kinds), {LINE: 10, PATH: 4})
         self.assertEqual(dict(found.pairs), {("/x/a.c", "/w/a.c"): 4})
-        self.assertEqual(worst_functions(found), [("f", {MISSING: 10, WRONG: 10}), ("g", {EXTRA: 3, WRONG: 4})])
-        self.assertEqual(worst_files(found), [("/w/a.c", {WRONG: 14, MISSING: 10, EXTRA: 3})])
+        self.assertEqual(list(worst_functions(found)), [("f", {MISSING: 10, WRONG: 10}), ("g", {EXTRA: 3, WRONG: 4})])
+        self.assertEqual(worst_files(found)[:2], [("/w/a.c", {WRONG: 14, MISSING: 10, EXTRA: 3})])
 
     def test_the_worst_are_wrong_ones(self):
         worst = Worst(2)
@@ -69,7 +69,7 @@ class Sums(unittest.TestCase):
         self.assertEqual(worst.in_order(), [at(20, 22, 1, 2), at(40, 44, 1, None)])
 
     def test_code_between_functions_has_no_name(self):
-        self.assertEqual(worst_functions(tally(at(4, 12, None, 1), functions=((0, 8, "f"),))), [("", {MISSING: 4}), ("f", {MISSING: 4})])
+        self.assertEqual(list(worst_functions(tally(at(4, 12, None, 1), functions=((0, 8, "f"),)))), [("", {MISSING: 4}), ("f", {MISSING: 4})])
 
 
 class OtherRows(unittest.TestCase):

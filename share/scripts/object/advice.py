@@ -85,12 +85,22 @@ OTHER_SIZE = ("units were upgraded for addresses of %s bytes, and an operation h
               "2, 4 or 8 bytes, linetab-object upgrade --address-size N FILE prints the section for these, which linetab reads")
 
 
+FILE_0 = ("the unit is of version %d, where files count from 1: its compiler left the file of that row open, and readers answer with none, "
+          "with the first file or with the name of the unit; %s")
+
+
+def naming_no_file(question, unit):
+    """What to do where a row of an older unit names file 0, if the unit at this offset is one."""
+    version = next((version for version, at in versions(question.section(), question.image.big) if at == unit), None)
+    return FILE_0 % (version, compiled_anew(question.image, version)) if version in OLDER else None
+
+
 def overlapping(address):
     if address == "0x0":
         return "sequences overlap at 0x0; if the linker left those of discarded functions there, --dead 0x0 leaves them out"
-    return ("two sequences hold %s, and aren't of one size: GNU ld and gold lead the line numbers of a discarded copy of an inline "
-            "function to the copy that they kept, also where it is another one, and --icf folds functions into one; link by lld or mold "
-            "without --icf, or compile with -flto" % address)
+    return ("two different copies of an inline function overlap at %s: GNU ld and gold point the line numbers of the copy that they "
+            "discard at the one that they keep, and --icf folds functions into one; link with lld or mold and without --icf, or compile "
+            "with -flto" % address)
 
 
 def advice(line, question):
@@ -104,6 +114,8 @@ def advice(line, question):
         return overlapping(address), (DEAD, COPIES) if address == "0x0" else ()
     if line.startswith("no 25 ") and line.endswith(": extended length") and "--address-size" in question.options:
         return OTHER_SIZE % question.options["--address-size"][0], (SETS,)
+    if line.startswith("no 30 ") and line.endswith(" file 0"):
+        return naming_no_file(question, int(line.split()[5], 16)), ()
     if line.endswith(": zero opcode base") and compiler_of(image) == PASCAL:
         return "Free Pascal leaves the field maximum_operations_per_instruction out of version 4: compile with -gw3", ()
     if line.startswith("no 28 ") and missing:

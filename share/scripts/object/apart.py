@@ -74,7 +74,7 @@ def apart(path, image):
             found.place, found.program = place, image
             return found
     if strangers:
-        raise Refusal("it has no %s, and %s, which lies where its debug information should, is of another file"
+        raise Refusal("it has no %s, and %s, where its debug information should be, belongs to another file"
                       % (LINE, shown(strangers[0])))
     raise Nothing(nothing_found(image, link, tried))
 

@@ -63,7 +63,7 @@ class Causes:
         if not self.is_most(self.tally.kinds[FIRST]):
             return None
         return ("%s answers by the first of two rows at an address, as readers of GSYM files up to LLVM 17 do" % self.name,
-                "read it by a later reader")
+                "read it with a newer reader")
 
     def columns(self):
         if not self.is_most(self.tally.kinds[COLUMN]):

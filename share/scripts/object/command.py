@@ -319,7 +319,7 @@ def begin(about, typed):
         tell(USED)
         return 2
     if not os.access(LINETAB, os.X_OK):
-        tell("the program linetab has to lie beside this one, and %s isn't there" % shown(LINETAB))
+        tell("the program linetab has to be beside this one, and %s isn't there" % shown(LINETAB))
         return 3
     if first.startswith("-"):
         return version()

@@ -43,7 +43,7 @@ def section_of(image, name):
     if not image.has(name):
         return Part(b"", 0, 0)
     if name in image.doubled:
-        raise Refusal("it has two sections %s, and nothing says which of them is meant" % name)
+        raise Refusal("it has two sections %s, and nothing says which one is meant" % name)
     data, offset, size, unpack = image.sections[name]
     if not unpack:
         return data.part(offset, size)

@@ -36,7 +36,7 @@ def elf_image(data, path):
     if kind == 1:
         image.loose = loose_elf(image, machine)
     elif kind == 4:
-        raise Nothing("it is a core file: take the program that it is of")
+        raise Nothing("it is a core file: take the program that it came from")
     image.order = order
     image.identity = build_id(image, order)
     image.note_segments = lambda: note_segments(data, order, wide)

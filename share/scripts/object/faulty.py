@@ -12,7 +12,7 @@ SHOWN = 100  # characters of what was found
 MOST = 1 << 20  # records that are read up to the faulty one
 FAULT = re.compile(r"no 3([6-9]) table [a-z]+(?: record ([0-9]+)(?: column ([0-9]+))?)?")
 # How notes of the program begin that say less.
-OURS = re.compile(rb"linetab: note: (the table has to begin with |line [0-9]+ of the table: |each record has as many fields |"
+OURS = re.compile(rb"linetab: note: (the first line has to be |line [0-9]+ of the table: |each record has as many fields |"
                   rb"(?:low|high|low_op|high_op|unit|file|line|column|is_stmt|isa|discriminator) is |each span ends above ).*")
 SEPARATORS = {";": "semicolons", "\t": "tabs", "|": "bars"}
 BY_PATH = "low,high,path,line"

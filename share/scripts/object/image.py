@@ -161,5 +161,5 @@ def judged(data, path):
         image = apart.apart(path, image)
     for name in JUDGED:
         if name in image.doubled:
-            raise Refusal("it has two sections %s, and nothing says which of them is meant" % name)
+            raise Refusal("it has two sections %s, and nothing says which one is meant" % name)
     return image

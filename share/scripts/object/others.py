@@ -77,7 +77,7 @@ def turned_round(data, name, other):
 def refuse_other(other, program):
     """Refuses what can't be compared with a program of this name: another program, and nothing at all."""
     if other.is_program():
-        raise Refusal("it is a program, and stands where its table or symbol file has to: linetab-object check %s SYMBOLS" % shown(program),
+        raise Refusal("it is a program, and is in the place of its table or symbol file: linetab-object check %s SYMBOLS" % shown(program),
                       other.name)
     if other.data is not None and other.data.size == 0:
         raise Refusal("it is empty: what should have written it failed, or wrote nothing", other.name)

@@ -18,7 +18,7 @@ TORN = "section %s isn't what its compression header says: the file is damaged"
 def exactly(name, packed, size, pieces):
     """What was packed, whose bytes have to be as many as its header says."""
     if size > PIECE + RATIO * packed.size:
-        raise Refusal("section %s stands for %d bytes by its compression header, and has %d: where that is true, "
+        raise Refusal("section %s stands for %d bytes by its compression header, and has %d: if that is true, "
                       "objcopy --decompress-debug-sections unpacks it" % (name, size, packed.size))
     for piece in pieces:
         size -= len(piece)
@@ -66,7 +66,7 @@ def from_elf(order, wide, path, name, part):
         return inflated(name, packed, size)
     if kind == 2:
         return exactly(name, packed, size, from_zstd(name, packed, path))
-    raise Refusal("section %s is compressed in a way that isn't known here, number %d" % (name, kind))
+    raise Refusal("section %s is compressed in an unknown way, number %d" % (name, kind))
 
 
 def from_zstd(name, packed, path):

@@ -227,7 +227,7 @@ def all_answers(word, given, one):
         raise Usage("check -r wants a folder of programs, and one of tables or symbol files")
     for folder in (given.files[0], given.others[0]):
         if not os.path.isdir(folder):
-            tell("%s: it is no folder" % shown(folder))
+            tell("%s: it isn't a folder" % shown(folder))
             return 3
     answers = Counted(word, given)
     programs = builds(given.files[0], answers)

@@ -15,7 +15,7 @@ LONGEST = 1 << 13  # bytes that are read of a section that names a file: no syst
 def start_of(image, name):
     """A place at the beginning of a section that is there."""
     if name in image.doubled:
-        raise Broken("it has two sections %s, and nothing says which of them is meant" % name)
+        raise Broken("it has two sections %s, and nothing says which one is meant" % name)
     try:
         start = image.head(name)[:LONGEST]
     except Refusal as fault:

@@ -141,19 +141,37 @@ class Tally:
 # ---- by functions and files, the worst first
 
 
-def not_right(counts):
-    """Addresses that aren't right, by names: of each what is wrong, missing and extra."""
-    found = {}
-    for what, sizes in counts.items():
-        for name, size in sizes.items():
-            found.setdefault(name, Counter())[what] += size
-    return sorted(found.items(), key=lambda pair: (-sum(pair[1].values()), pair[0]))
+class Ranked:
+    """Names, the worst first, and of each how many addresses are wrong, missing and extra. These are put together as they are asked for,
+    since each stretch may have a name of its own. What has no name is `between`."""
+
+    def __init__(self, counts, between=None):
+        self.counts, self.between, totals = counts, +Counter(between), Counter()
+        for sizes in counts.values():
+            totals.update(sizes)
+        if self.between:
+            totals[""] += sum(self.between.values())
+        self.names = sorted(totals, key=lambda name: (-totals[name], name))
+
+    def __len__(self):
+        return len(self.names)
+
+    def __iter__(self):
+        return map(self.pair, self.names)
+
+    def __getitem__(self, places):
+        return list(map(self.pair, self.names[places]))
+
+    def pair(self, name):
+        found = Counter({what: sizes[name] for what, sizes in self.counts.items() if name in sizes})
+        return name, found + self.between if name == "" else found
 
 
 def worst_functions(tally):
     """Names of functions and what is wrong in each; what lies between functions has no name."""
-    return not_right({what: missed.sizes + Counter({"": missed.between}) for what, missed in tally.by_function.items()})
+    missed = tally.by_function
+    return Ranked({what: missed[what].sizes for what in missed}, {what: missed[what].between for what in missed})
 
 
 def worst_files(tally):
-    return not_right(tally.by_file)
+    return Ranked(tally.by_file)

@@ -7,41 +7,41 @@ from scripts.object.program import asked
 from scripts.telling import put_error, shown
 
 FILE = "A program, its debug information apart, a .dSYM folder, or - for standard input"
-OUTPUT = ("-o, --output <FILE>", "Writes the answer to a file, whole where the status is 0, and else not at all")
+OUTPUT = ("-o, --output <FILE>", "Writes the answer to a file: all of it if the status is 0, else nothing")
 # The words that are about the bytes of a section, so that units of versions 2 to 4 are upgraded for them only if that is asked for.
 OF_BYTES = ("units", "dump", "convert", "verify")
 OLDER = ("--older", "Upgrades units of versions 2 to 4 to version 5 first; offsets of units are then those of the upgraded section")
-NO_OLDER = ("--no-older", "Takes units of versions 2 to 4 as they are, as it does without this")
-UNASKED = ("--older", "Upgrades units of versions 2 to 4 to version 5 first, as it does without this")
+NO_OLDER = ("--no-older", "Takes units of versions 2 to 4 as they are; this is the default")
+UNASKED = ("--older", "Upgrades units of versions 2 to 4 to version 5 first; this is the default")
 REFUSED = ("--no-older", "Refuses units of versions 2 to 4; without it they are upgraded to version 5 first, and offsets of units are "
                          "those of the upgraded section")
-ANYWAY = ("--older", "Changes nothing: units of versions 2 to 4 are upgraded without it too")
+ANYWAY = ("--older", "Changes nothing: units of versions 2 to 4 are upgraded anyway")
 # What `upgrade` of the program has to be given, and isn't here.
 GIVEN = {
     "--address-size": "How many bytes an address has in units of versions 2 to 4, in place of what .debug_info or the kind of the file says",
     "--directories": "A file with the compilation directories of these units, in place of those of .debug_info, or - for standard input",
 }
-RECURSIVE = ("-r, --recursive", "Takes all programs in the folders among FILEs, and passes over what has no line numbers")
+RECURSIVE = ("-r, --recursive", "Takes all programs in the folders among FILEs, and skips what has no line numbers")
 PAIRS = ("-r, --recursive", "Compares the programs in a folder with what is in the folder SYMBOLS, paired by identifiers, or by names")
-JOBS = ("-j, --jobs <N>", "Takes so many files at a time, in place of as many as there are processors")
-BASE = ("--base <ADDRESS>", "The address at which the program was loaded, which is taken away from each address")
-JSON = ("--json", "Writes an object of JSON on a line for each answer, with its notes, in place of the answer")
+JOBS = ("-j, --jobs <N>", "Takes N files at a time; by default as many as there are processors")
+BASE = ("--base <ADDRESS>", "The address at which the program was loaded; it is subtracted from each address")
+JSON = ("--json", "Writes a JSON object on a line for each answer, with its notes, instead of the answer")
 SYMBOLS = ("<SYMBOLS>", "An address table, a symbol file of Breakpad or a GSYM file, or - for standard input")
 CHECK = [
     ("--any-build", "Compares a symbol file of another build too"),
-    ("--whole", "Compares a symbol file at all addresses, also where it has no answer"),
+    ("--whole", "Compares a symbol file at all addresses, also those where it has no answer"),
     ("--base <ADDRESS>", "The address from which a symbol file of Breakpad counts, in place of that at which the program is loaded"),
-    ("--map <FROM=TO>", "Puts TO in the place of FROM where a name in a symbol file begins so; can be given several times"),
-    ("--max <N>", "With --all: ends at so many places where the two answer differently"),
-    ("--summary", "Says behind the answer how many addresses are right, what differs, where it is worst, and its cause"),
+    ("--map <FROM=TO>", "Replaces FROM by TO at the beginning of each name in a symbol file; can be given several times"),
+    ("--max <N>", "With --all: lists at most N places where the two differ"),
+    ("--summary", "Adds how many addresses are right, what differs, where it is worst, and the cause"),
     JSON,
 ]
 # The words that are of this program alone, but for symbolize: what they do, and the options that they have of those of check.
 OF_ANSWERS = {"--partial", "--at-least", "--all", "--ends"}
 OF_BOTH = ("--any-build", "--base", "--map")
-GAPS = ("gaps", "Prints as CSV where a program has lines, and its table or symbol file has no answer")
+GAPS = ("gaps", "Prints as CSV where a program has lines and its table or symbol file has no answer")
 REPORT = ("report", "Writes a page of HTML about a program and its tables or symbol files")
-SYMBOLIZE = ("symbolize", "Passes a text through, with the path, line and column behind each address that is in it")
+SYMBOLIZE = ("symbolize", "Copies a text, with the path, line and column after each address in it")
 MORE = "\nFor more information, try '--help'.\n"
 
 
@@ -156,7 +156,7 @@ class Differing(Check):
         name, about = named
         super().__init__(text)
         self.name, self.engine = name, "check"
-        self.text = about + "\n" + self.text.partition("\n")[2].partition("\n\nThe number")[0]
+        self.text = about + "\n" + self.text.partition("\n")[2]
         self.usage = self.usage.replace(" check ", " %s " % name)
         self.options = [row for row in self.options if names_of(row[0])[-1] not in OF_ANSWERS]
         self.taken, self.refused = self.taken - OF_ANSWERS, OF_ANSWERS

@@ -24,13 +24,6 @@ def from_gsym(asked):
         yield from spans_of(file.read(), first_row=asked.maker == "gsym-17")
 
 
-def from_breakpad(asked):
-    from scripts.table.breakpad import spans_of
-
-    with source(asked) as file:
-        yield from spans_of(file, asked.base or 0)
-
-
 def from_llvm_dwarfdump(asked):
     from scripts.table.llvm_dwarfdump import from_llvm_dwarfdump
 
@@ -71,7 +64,6 @@ def dialect_of(asked):
 MAKERS = {
     "gsym": Maker(from_gsym),
     "gsym-17": Maker(from_gsym),
-    "breakpad": Maker(from_breakpad, options=("base",)),
     "llvm-dwarfdump": Maker(from_llvm_dwarfdump, options=("dead", "skip_copies"), has_columns=lambda asked: True),
     "readelf": Maker(from_readelf, options=("dead", "skip_copies")),
     "lines": Maker(from_lines, has_columns=lambda asked: asked.has_columns),  # as soon as they are read
@@ -109,7 +101,6 @@ def asked_for(typed):
     words.add_argument("--paths-of")
     words.add_argument("--dead", type=an_address)
     words.add_argument("--skip-copies", action="store_true")
-    words.add_argument("--base", type=an_address)
     words.add_argument("--like", type=a_dialect)
     words.add_argument("--quiet", action="store_true")
     asked = words.parse_intermixed_args(typed)

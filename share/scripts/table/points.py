@@ -105,7 +105,7 @@ class Asked:
         self.run.wait()
         self.said.seek(0)
         line = self.said.readline(1000).rstrip(b"\n")
-        return Refusal("%s doesn't answer of each address: %s" % (self.name, shown(line) if line else "its answer isn't as it should be"))
+        return Refusal("%s doesn't answer for each address: %s" % (self.name, shown(line) if line else "its answer isn't as it should be"))
 
     def spans(self):
         """Each longest run of addresses with the same answer."""

@@ -58,7 +58,7 @@ def apart(ranges, what):
         end = it[1]
         yield it
     if left_out:
-        note("left out, as they overlap one before: %s" % counted(left_out, what))
+        note("left out, since they overlap an earlier one: %s" % counted(left_out, what))
 
 
 def table_of(spans, columns):
