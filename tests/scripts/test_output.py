@@ -6,7 +6,8 @@ import time
 import unittest
 from unittest import mock
 
-from scripts.object.output import Named, Overwriting, Standard, Unwritten, Whole, listed_in, place_named, removed_where_ended
+from scripts.object.output import Named, Overwriting, Standard, Unwritten
+from scripts.object.whole_file import Whole, listed_in, place_named, removed_where_ended
 
 
 @contextlib.contextmanager

@@ -8,7 +8,7 @@ from scripts import telling
 from scripts.bounded import Failure, Nothing, Refusal, opened, reason_of, standard_input, stored
 from scripts.object.image import inside, judged
 from scripts.object.notes import begun, marker_of, notes_to
-from scripts.object.output import Overwriting, Standard, Unwritten, Whole
+from scripts.object.output import Overwriting, Standard, Unwritten
 from scripts.object.program import LINETAB, Question, asked, unnamed
 from scripts.telling import end, hand_on, hold_standard_descriptors, note, shown, tell
 from scripts.object.words import MORE, Given, Usage, commands, known, misused, put_usage
@@ -280,6 +280,8 @@ def answered(word, given):
     output = given.own.get("--output")
     if output is None:
         return one(word, given, given.files[0], Standard())
+    from scripts.object.whole_file import Whole
+
     sink = Whole(output, word.name == "md5")
     sink.keep_off(given.inputs())
     return one(word, given, given.files[0], sink)
