@@ -5,7 +5,7 @@ use Rattle.std.proofs.Common.{eqb-true}
 use Rattle.std.proofs.KnownBytes.{Appends-nil, Appends-trans}
 use Rattle.std.proofs.lemmas.Bool.Decides.{nat_tests}
 use Rattle.std.proofs.lemmas.Grind.{common_steps}
-use Rattle.std.proofs.lemmas.List.{drop_more, map-append, take-append-drop}
+use Rattle.std.proofs.lemmas.List.{drop_more, length-take-le, map-append, take-append-drop}
 use Rattle.std.proofs.lemmas.List.Elements.{All-append}
 use Rattle.std.proofs.lemmas.List.Concat.{flat_map-append}
 use Rattle.std.proofs.lemmas.List.Splits.{slice_split_at, slice_split_none, length-slice_split}
@@ -13,7 +13,8 @@ use Rattle.std.proofs.ByRecursion.{All-append as all_append}
 use Rattle.std.specs.List.{flat_map, slice_split}
 use Rattle.std.specs.Str.Lines.{lines, lines_of_parts, strip_carriage_return}
 use Rattle.std.specs.Io.KnownBytes.{Appends, Keeps}
-use Rattle.lnt_io.specs.Pulling.{Pulls, IsAtEnd}
+use Rattle.lnt_io.proofs.PullLaws.{more_from_start}
+use Rattle.lnt_io.specs.Pulling.{HasMoreThan, Pulls, IsAtEnd}
 use Rattle.lnt_io.specs.declared.status.Status.{Status}
 use Rattle.lnt_io.specs.declared.status.Status.TheVariants.{Done}
 use Rattle.lnt_spans.specs.declared.position.Position.{Position}
@@ -310,3 +311,9 @@ pub pulls_prefix : (old new : Option (List ℕ)) (k n : ℕ) (room rest block : 
     → Pulls old new (take k room) → Pulls old new (take k block)
 pulls_prefix old new k n room rest block whole same pulls =
     subst (λ (z : List ℕ). Pulls old new (take k z)) (sym (same ∙ prefix_of n room rest whole)) pulls
+
+-- where a source that gave some bytes has more than it may give, it had more before
+pub more_before : (old new : Option (List ℕ)) (k : ℕ) (room : List ℕ) (before after : ℕ) → k ≤ length room → Pulls old new (take k room)
+    → after + k ≡ before → HasMoreThan new after → HasMoreThan old before
+more_before old new k room before after fits pulls same more =
+    more_from_start old new (take k room) before after pulls (grind (arith, common_steps, length-take-le)) more

@@ -1,10 +1,11 @@
 //! Looks up the positions in the lines of a text.
-ghost use Rattle.std.specs.Prelude.{◌≡◌, ◌+◌, ◌-◌, ◌^◌, ◌<◌, ◌==◌, [], ◌∷◌, length, IfErr, IfOk, IfSome, IsErrOf, IsTrue, MatchOption};
+ghost use Rattle.std.specs.Prelude.{◌≡◌, ◌+◌, ◌-◌, ◌^◌, ◌<◌, ◌==◌, [], ◌∷◌, length, IfErr, IfOk, IfSome, IsErrOf, MatchOption};
 ghost use Rattle.std.specs.Prelude.{◌++◌, ◌≤◌, OnErr, OnOk, Some, drop, take, position};
 ghost use Rattle.std.specs.Str.Lines.{strip_carriage_return};
 ghost use Rattle.lnt_io.specs.declared.io_stop.IoStop.TheVariants as io_stop;
 ghost use Rattle.lnt_io.specs.declared.status.Status.TheVariants.{Done};
 ghost use Rattle.lnt_io.specs.IoStops.{IsPrinting};
+ghost use Rattle.lnt_io.specs.Stopping.{IsTooLongOn};
 ghost use Rattle.lnt_answers.specs.AddressBlocks.{AreFirstBegun, AreFirstPrinted, BeginsWithLine, HasNo, IsCut};
 ghost use Rattle.lnt_answers.specs.AddressLines.{AreAddressesBegun, AreAddressesPrinted, AreLinesBegun, AreLinesPrinted};
 ghost use Rattle.lnt_answers.specs.Lines.{NamesPosition};
@@ -46,7 +47,7 @@ pub fn print_addresses<T: Source, W: Write>(
         (W.contents out.old) (W.contents out.new) status) }
     ensures begun { OnErr result (AreAddressesBegun index.now op (T.remaining lines.old) (W.contents out.old) (W.contents out.new)) }
     ensures read { IsErrOf result io_stop.Read → T.failures lines.new ≡ T.failures lines.old + 1 }
-    ensures too_long { IsErrOf result io_stop.TooLong → IsTrue (T.too_long lines.new) }
+    ensures too_long { IsTooLongOn ⟦<T as Source>⟧ lines.old lines.new result io_stop.TooLong }
 {
     // Of the size of a file's buffer, so that a pull is one read.
     let mut block = vec![in alloc; 0; BLOCK]?;

@@ -40,8 +40,8 @@ long_with : (finds : List ℕ → FileState → Type 0) (from : Judging) (file :
     → IsFileOfBoth from file name → IsTooLongFile (finds name) → IsLongWith finds from file question name
 long_with finds from file (Check false ends partial at_least) name is_one long =
     record { name = name; is_one = is_one; is_long = long }
-long_with finds from file (Check true ends partial at_least) name is_one long = inr long
-long_with finds from file (Lines op) name is_one long = inr long
+long_with finds from file (Check true ends partial at_least) name is_one long = long
+long_with finds from file (Lines op) name is_one long = long
 
 -- A file that was told when both were opened.
 pub told_with : (finds : List ℕ → FileState → Type 0) (from : Judging) (file : List ℕ) (question : FileQuestion) (stop : FileStop)
@@ -88,15 +88,26 @@ told_in_check finds from file failed unread first second section text one other 
 told_in_check finds from file failed unread first second section text one other of_section of_text whole all Write cause = tt
 told_in_check finds from file failed unread first second section text one other of_section of_text whole all Memory cause = tt
 
--- the same where the stop names the section, if that is too long, or the other file
-pub told_by_either : (finds : List ℕ → FileState → Type 0) (section file : List ℕ) (failed fails unread reads : ℕ) (found : Bool)
-    (bytes : Option (List ℕ)) (left : ℕ) → finds section (Readable bytes) → left ≡ 2 ^ 40 → (stop : FileStop)
+-- the file that a stop names, whose source was found too long
+long_named : (finds : List ℕ → FileState → Type 0) (file told : List ℕ) (found : Bool) (bytes : Option (List ℕ)) (left : ℕ)
+    → finds file (Readable bytes) → left ≡ 2 ^ 40 → (file ≡ told) × IsFoundTooLong found bytes left → IsTooLongFile (finds told)
+long_named finds file told found bytes left is_found whole long =
+    subst (λ (name : List ℕ). IsTooLongFile (finds name)) long.0 (long_found (finds file) found bytes left is_found whole long.1)
+
+-- the same where the stop names the one of both that was found too long
+pub told_by_either : (finds : List ℕ → FileState → Type 0) (section file : List ℕ) (failed fails unread reads : ℕ) (first second : Bool)
+    (bytes text : Option (List ℕ)) (one other : ℕ) → finds section (Readable bytes) → finds file (Readable text)
+    → one ≡ 2 ^ 40 → other ≡ 2 ^ 40 → (stop : FileStop)
     → IsOfCause (λ told. ((section ≡ told) × (fails ≡ failed + 1)) ⊎ ((file ≡ told) × (reads ≡ unread + 1)))
-    (λ told. ((section ≡ told) × IsFoundTooLong found bytes left) ⊎ (file ≡ told)) stop
-    → TellsLong (λ name. (file ≡ name) ⊎ IsTooLongFile (finds name)) stop
-told_by_either finds section file failed fails unread reads found bytes left of_section whole (Read name) cause = tt
-told_by_either finds section file failed fails unread reads found bytes left of_section whole (TooLong name) (inl long) =
-    inr (subst (λ (told : List ℕ). IsTooLongFile (finds told)) long.0 (long_found (finds section) found bytes left of_section whole long.1))
-told_by_either finds section file failed fails unread reads found bytes left of_section whole (TooLong name) (inr is) = inl is
-told_by_either finds section file failed fails unread reads found bytes left of_section whole Write cause = tt
-told_by_either finds section file failed fails unread reads found bytes left of_section whole Memory cause = tt
+    (λ told. ((section ≡ told) × IsFoundTooLong first bytes one) ⊎ ((file ≡ told) × IsFoundTooLong second text other)) stop
+    → TellsLong (λ name. IsTooLongFile (finds name)) stop
+told_by_either finds section file failed fails unread reads first second bytes text one other of_its of_other whole all (Read name) cause =
+    tt
+told_by_either finds section file failed fails unread reads first second bytes text one other of_its of_other whole all (TooLong name)
+    (inl long) =
+    long_named finds section (string_bytes name) first bytes one of_its whole long
+told_by_either finds section file failed fails unread reads first second bytes text one other of_its of_other whole all (TooLong name)
+    (inr long) =
+    long_named finds file (string_bytes name) second text other of_other all long
+told_by_either finds section file failed fails unread reads first second bytes text one other of_its of_other whole all Write cause = tt
+told_by_either finds section file failed fails unread reads first second bytes text one other of_its of_other whole all Memory cause = tt

@@ -88,11 +88,10 @@ pub record IsOneTooLong (finds : List ℕ → FileState → Type 0) (AreThese : 
   pub is_one : AreThese name
   pub is_long : IsTooLongFile (finds name)
 
--- The file with this name has more than 2^40 bytes, if its bytes are known; for a check without --all, one of its files has. Of the
--- other file of a check with --all, and of one of addresses, nothing is said.
+-- The file with this name has more than 2^40 bytes, if its bytes are known; for a check without --all, one of its files has.
 abbrev pub IsLongWith : (List ℕ → FileState → Type 0) → Judging → List ℕ → FileQuestion → List ℕ → Type 0
 IsLongWith finds from file (Check false ends partial at_least) name = IsOneTooLong finds (IsFileOfBoth from file)
-IsLongWith finds from file question name = (file ≡ name) ⊎ IsTooLongFile (finds name)
+IsLongWith finds from file question name = IsTooLongFile (finds name)
 
 -- the same of a file that a stop of this request tells as too long
 abbrev pub IsLongIn : (List ℕ → FileState → Type 0) → Request → List ℕ → Type 0
@@ -147,13 +146,13 @@ IsCausedBy source old new name stop = IsOfCause
     (λ file. (name ≡ file) × (source.failures new ≡ source.failures old + 1))
     (λ file. (name ≡ file) × IsFoundTooLong (source.too_long new) (source.remaining old) (source.left old)) stop
 
--- the same of the work on one source and then on another one, of which it isn't said that it was found too long
+-- the same of the work on one source and then on another one
 abbrev pub IsCausedByEither : {R T : Type 0} → Ghosts R → R → R → List ℕ → Ghosts T → T → T → List ℕ → FileStop → Type 0
 IsCausedByEither first old new name second was is other stop = IsOfCause
     (λ file. ((name ≡ file) × (first.failures new ≡ first.failures old + 1))
     ⊎ ((other ≡ file) × (second.failures is ≡ second.failures was + 1)))
     (λ file. ((name ≡ file) × IsFoundTooLong (first.too_long new) (first.remaining old) (first.left old))
-    ⊎ (other ≡ file)) stop
+    ⊎ ((other ≡ file) × IsFoundTooLong (second.too_long is) (second.remaining was) (second.left was))) stop
 
 -- The same of a check, whose two sources hadn't failed before. The file that is told as too long is that of a source that was found so,
 -- and one of both has more bytes than it may give.

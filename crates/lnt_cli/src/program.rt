@@ -40,8 +40,8 @@ pub fn run<O: Files, W: Write>(
 /// flushed, except after each answered block of lines of a file of addresses.
 ///
 /// A run stops with `Usage` only if the words ask for nothing (`AskForNothing`), before a file is opened and with nothing
-/// written; with `Read` or `TooLong` for a file that the words name (`NameFile`), with `TooLong` only for one of more than 2^40 bytes
-/// as far as `IsLongIn` says; with `Write` if `out` failed, after a prefix of the text; and with `Memory` (`IsStopOf`). What
+/// written; with `Read` or `TooLong` for a file that the words name (`NameFile`), with `TooLong` only for one of more than 2^40 bytes,
+/// as `IsLongIn` says; with `Write` if `out` failed, after a prefix of the text; and with `Memory` (`IsStopOf`). What
 /// [`answer`] states was written if it stops. If the opener refuses a file, it stops with `Read` and that file's name, and for no
 /// other reason (`NameUnreadable`), except once it judges listed sums.
 ///
@@ -88,7 +88,7 @@ pub fn run_with_notes<O: Files, W: Write, N: Write>(
 /// first fault (`AnswersSymbols`). For the lines of a file, a line is written for each of them (`AnswersFile`).
 ///
 /// If it stops, a prefix of an answer has been written, and nothing else (`IsStopped`). It stops with `Read` or `TooLong` for a
-/// file that the request names (`IsFileIn`), and with `TooLong` only if it has more than 2^40 bytes, as far as `IsLongIn` says; with
+/// file that the request names (`IsFileIn`), and with `TooLong` only if it has more than 2^40 bytes, as `IsLongIn` says; with
 /// `Write` if `out` failed; and with `Memory`. If the opener refuses a file, it stops with `Read` and that file's name
 /// (`IsNamedUnreadable`). Listed sums are the exception: once the section is open, a listed file that is refused is part of the answer.
 pub fn answer<O: Files, W: Write, N: Write>(

@@ -1,5 +1,5 @@
 //! Questions about a section that is judged, alone or with another file.
-ghost use Rattle.std.specs.Prelude.{◌≡◌, ◌+◌, ◌-◌, ◌^◌, ◌<◌, ◌⊎◌, IfErr, IfOk, IsErrAnd, OnErr};
+ghost use Rattle.std.specs.Prelude.{◌≡◌, ◌-◌, ◌^◌, ◌<◌, ◌⊎◌, IfErr, IfOk, IsErrAnd, OnErr};
 ghost use Rattle.std.specs.Io.KnownBytes.{Keeps};
 ghost use Rattle.lnt_io.specs.Files.{IsTooLongFile, RefusesOnly};
 ghost use Rattle.lnt_io.specs.IoStops.{IsPrinting};
@@ -8,7 +8,7 @@ ghost use Rattle.lnt_answers.specs.Lines.{HasBegunLine, IsIndexGiven, IsReasonPr
 ghost use Rattle.lnt_cli.specs.Answered.{AnswersFile, AnswersQuestion, IsJudgedSo, IsTrueOf, options_in};
 ghost use Rattle.lnt_cli.specs.Questions.{AnswersGood, AnswersGoodFile, AnswersJudged, BeginsGood, BeginsGoodFile, BeginsJudged};
 ghost use Rattle.lnt_cli.specs.Stops.{AnswersUnreadable, BeginsFile, BeginsQuestion, IsCausedBy, IsCausedByEither, IsFileOf, IsFileOfBoth};
-ghost use Rattle.lnt_cli.specs.Stops.{IsLongWith, IsOfCause, IsUnreadable, NamesOneOf, StopsIfRefused, TellsLong};
+ghost use Rattle.lnt_cli.specs.Stops.{IsLongWith, IsUnreadable, NamesOneOf, StopsIfRefused, TellsLong};
 
 use crate::check::check_table;
 use crate::inputs::{Opened, Texts, of_file, open_judged, open_other};
@@ -172,8 +172,7 @@ fn answer_good_file<'f, F: Source, W: Write>(
         index.now (W.contents out.old) (W.contents out.new) answered.status) }
     ensures stopped { OnErr result (Keeps (W.contents out.old) (W.contents out.new)
         ⊎ BeginsGoodFile question (F.remaining bytes.old) index.now (W.contents out.old) (W.contents out.new)) }
-    ensures cause { IfErr result (IsOfCause
-        (λ name. (file.now ≡ name) × (F.failures bytes.new ≡ F.failures bytes.old + 1)) (λ name. file.now ≡ name)) }
+    ensures cause { IfErr result (IsCausedBy ⟦<F as Source>⟧ bytes.old bytes.new file.now) }
 {
     let name = String::from_str(alloc, file)?;
     match question {

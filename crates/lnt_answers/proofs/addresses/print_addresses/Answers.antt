@@ -1,7 +1,7 @@
 use Rattle.std.proofs.Common.{◌≡◌, ◌∙◌, ◌<◌, true, false, sym, length, rules, refl}
 use Rattle.lnt_io.proofs.PrefixLaws.{so_stopped}
 use Rattle.lnt_io.specs.Pulling.{IsAtEnd}
-use Rattle.lnt_answers.proofs.AddressLemmas.{is_empty, not_empty, pulls_prefix, text_begun, text_ended, text_ended_within}
+use Rattle.lnt_answers.proofs.AddressLemmas.{is_empty, more_before, not_empty, pulls_prefix, text_begun, text_ended, text_ended_within}
 use Rattle.lnt_answers.proofs.AddressLemmas.{text_kept, text_more, text_pulled}
 use Rattle.lnt_answers.proofs.AddressPrefixes.{last_stopped, text_kept_begun, text_stopped, text_unbegun}
 use Rattle.lnt_answers.proofs.addresses.print_addresses.Goals.{then-not-is_empty+in_ok-answer_line, else-not-is_empty}
@@ -10,6 +10,7 @@ use Rattle.lnt_answers.proofs.addresses.print_addresses.Goals as goal
 pub loop-count-init : goal.loop-count-init
 loop-count-init g c = record {
   failures = refl;
+  more = λ more. more;
   full = search rules;
   same = c.new-asked.ensures.op;
   index = search rules;
@@ -24,6 +25,9 @@ loop-count-preserved g c =
     c.loop-count.block.len c.pull.new.buf _ c.deref.result.now (search rules) c.deref.ensures.value c.in-Ok.ensures.bytes in
     record {
       failures = c.in-Ok.ensures.failures ∙ c.loop-count.invariant.failures;
+      more = λ more. c.loop-count.invariant.more (more_before (g.T.Source.remaining c.loop-count.lines)
+          (g.T.Source.remaining c.pull.new.self) c.in-Ok.count c.pull.new.buf _ _ c.in-Ok.ensures.bound c.in-Ok.ensures.bytes
+          c.in-Ok.ensures.left more);
       full = search rules;
       same = c.in_ok-answer_block.ensures.same ∙ c.loop-count.invariant.same;
       index = c.answer_block.ensures.index ∙ c.loop-count.invariant.index;
@@ -87,6 +91,14 @@ returns-in_err-flush-clause-begun g c =
 
 pub returns-then-too_long-clause-begun : goal.returns-then-too_long-clause-begun
 returns-then-too_long-clause-begun g c = text_kept_begun c.loop-count.invariant.printed
+
+pub returns-then-too_long-clause-too_long : goal.returns-then-too_long-clause-too_long
+returns-then-too_long-clause-too_long g c stopped = record {
+  is_found = search rules;
+  more = c.loop-count.invariant.more (more_before (g.T.Source.remaining c.loop-count.lines) (g.T.Source.remaining c.pull.new.self)
+      c.in-Ok.count c.pull.new.buf _ _ c.in-Ok.ensures.bound c.in-Ok.ensures.bytes c.in-Ok.ensures.left
+      (g.met.T.Source.more c.pull.new.self (sym c.too_long.ensures ∙ c.if-too_long.true)));
+}
 
 pub returns-in_err-answer_line-clause-begun : goal.returns-in_err-answer_line-clause-begun
 returns-in_err-answer_line-clause-begun g c =

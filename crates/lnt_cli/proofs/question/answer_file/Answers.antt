@@ -89,13 +89,15 @@ returns-in-Check-true-default-default-default-clause-too_long g c =
     rw (arm.is, ← sym arm.all-test ∙ arm.all-is)
     (of_stop _ c.answer_both.result c.answer_both.ensures.cause
     (λ stop cause.
-    told_by_either (g.O.Files.finds c.args.opener.now) c.args.from.now.section.now c.args.file.now _ _ _ _ _ _ _
-    c.in_ok-files.ensures.found c.in_ok-files.ensures.left stop cause))
+    told_by_either (g.O.Files.finds c.args.opener.now) c.args.from.now.section.now c.args.file.now _ _ _ _ _ _ _ _ _ _
+    c.in_ok-files.ensures.found (c.open_judged.ensures.later _ _ c.in_ok-other.ensures.found) c.in_ok-files.ensures.left
+    c.in_ok-other.ensures.left stop cause))
 
 pub returns-clause-too_long : goal.returns-clause-too_long
 returns-clause-too_long g c =
     rw c.in-Lines.is
     (of_stop _ c.answer_both-in-Lines.result c.answer_both-in-Lines.ensures.cause
     (λ stop cause.
-    told_by_either (g.O.Files.finds c.args.opener.now) c.args.from.now.section.now c.args.file.now _ _ _ _ _ _ _
-    c.in_ok-files.ensures.found c.in_ok-files.ensures.left stop cause))
+    told_by_either (g.O.Files.finds c.args.opener.now) c.args.from.now.section.now c.args.file.now _ _ _ _ _ _ _ _ _ _
+    c.in_ok-files.ensures.found (c.open_judged.ensures.later _ _ c.in_ok-other.ensures.found) c.in_ok-files.ensures.left
+    c.in_ok-other.ensures.left stop cause))
