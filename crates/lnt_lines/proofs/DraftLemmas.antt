@@ -1,5 +1,5 @@
 -- Units added to a draft, one at a time.
-use Rattle.std.proofs.Common.{◌≡◌, ℕ, ◌+◌, ◌<◌, ◌≤◌, true, List, [], ◌∷◌}
+use Rattle.std.proofs.Common.{◌≡◌, ℕ, ◌+◌, ◌<◌, ◌≤◌, List, [], ◌∷◌}
 use Rattle.std.proofs.Common.{◌++◌, map, length, sym, ap, subst, ◌∙◌, arith, Option, IsPermutation}
 use Rattle.std.specs.List.{All, AllByRecursion, AllZip}
 use Rattle.std.proofs.lemmas.List.{map-append}
@@ -18,7 +18,6 @@ use Rattle.lnt_files.specs.Tables.{AreUsableTables}
 use Rattle.lnt_sequences.proofs.UnitLaws.{distinct_sequences, offsets_differ, ordered-append}
 use Rattle.lnt_header.specs.Joins.{AreRising}
 use Rattle.lnt_sequences.specs.declared.extent.Extent.{Extent}
-use Rattle.lnt_sequences.specs.Copies.{AreExtentsOf}
 use Rattle.lnt_sequences.specs.Extents.{AreSettled, extents_of}
 use Rattle.lnt_sequences.specs.Rules.{AreApart, AreDistinct, AreOrdered, HaveFiles}
 use Rattle.lnt_sequences.specs.Sequences.{kept_sequences, live_in, live_sequences, Selection}
@@ -121,7 +120,6 @@ kept_numbers (unit ∷ units) (kept ∷ programs) keeps all =
 pub index_of_draft : (text general : List ℕ) (selection : Selection) (draft : Draft)
     (entries live : List Extent) → IsDraftOf text general selection.dead selection.units draft → AreRising draft.units.items
     → AreSettled entries → IsPermutation (extents_of (kept_sequences selection)) entries → AreApart (kept_sequences selection)
-    → (selection.skip ≡ true → AreExtentsOf (live_sequences selection.dead selection.units) live)
     → IsIndexOf selection (record {
       line = text;
       general = general;
@@ -130,11 +128,10 @@ pub index_of_draft : (text general : List ℕ) (selection : Selection) (draft : 
       units = draft.units.items;
       programs = draft.programs.items;
     })
-index_of_draft text general selection draft entries live d rising settled permuted apart all = record {
+index_of_draft text general selection draft entries live d rising settled permuted apart = record {
   settled = settled;
   entries = permuted;
   apart = apart;
-  live = all;
   ordered = all_ordered text general selection.dead selection.units d.sound;
   rising = rising;
   offsets = d.offsets;

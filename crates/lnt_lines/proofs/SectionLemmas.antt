@@ -21,6 +21,7 @@ use Rattle.lnt_unit.proofs.BrokenLaws.{frame_broken}
 use Rattle.lnt_unit.proofs.FrameLaws.{broken_more}
 use Rattle.lnt_unit.proofs.UnitLaws.{no_section, units_push}
 use Rattle.lnt_unit.specs.UnitBytes.{SectionBytes, UnitBytesIn}
+use Rattle.lnt_sequences.specs.Copies.{AreExtentsOf}
 use Rattle.lnt_sequences.specs.Rules.{AreApart}
 use Rattle.lnt_sequences.specs.Sequences.{kept_of, live_sequences, Placed}
 use Rattle.lnt_sequences.specs.Watching.{Collects}
@@ -28,7 +29,7 @@ use Rattle.lnt_lines.specs.declared.draft.Draft.{Draft}
 use Rattle.lnt_lines.specs.declared.no.No.TheVariants as bad
 use Rattle.lnt_lines.specs.declared.options.Options.{Options}
 use Rattle.lnt_lines.specs.declared.refusal.Refusal.TheVariants as refusal
-use Rattle.lnt_lines.specs.Judging.{IsIndexOfSection, HasFlaw, IsUnitNo, IsUnitRefusal, Refusal}
+use Rattle.lnt_lines.specs.Judging.{IsIndexOfSection, IsIndexWithCopies, HasFlaw, IsUnitNo, IsUnitRefusal, Refusal}
 use Rattle.lnt_lines.specs.Stepping.{HasAdded, IsDraftOf, IsDraftOfSection, IsRefusal, IsWholeDraft}
 use Rattle.lnt_lines.specs.Indexed.{Indexed, IsIndexOf}
 use Rattle.lnt_lines.specs.Nos.{IsFirstFlaw, IsMalformed, IsTrueNo, No}
@@ -200,6 +201,25 @@ whole_draft text general options section draft all = record {
   rising = subst AreRising (sym all.draft_is.offsets) (rising_from options.order 0 all.units all.bytes all.spelled);
 }
 
+-- The index of a draft of the section is the section's.
+index_of_bytes : (text general : List ℕ) (options : Options) (section : Option (List ℕ)) (draft : Draft) (index : Indexed) (bytes : List ℕ)
+    → (all : IsDraftOfSection text general options section draft) → all.bytes ≡ bytes
+    → ((sequences : List Placed) → Collects draft.collected sequences → AreApart (kept_of options.skip_copies sequences))
+    → ((dead : Option ℕ) (units : List (ℕ × UnitParts))
+    → IsDraftOf text general dead units draft → IsIndexOf (record { dead = dead; skip = options.skip_copies; units = units }) index)
+    → index.line ≡ text → index.general ≡ general → IsIndexOfSection text general options bytes index
+index_of_bytes text general options section draft index bytes all whole apart is line_is general_is = record {
+  units = all.units;
+  good = record {
+    spelled = subst (SectionBytes options.order all.units) whole all.spelled;
+    sound = all.draft_is.sound;
+    apart = apart (live_sequences options.dead all.units) all.draft_is.collects;
+  };
+  index_is = is options.dead all.units all.draft_is;
+  line_is = line_is;
+  general_is = general_is;
+}
+
 pub indexed : (text general : List ℕ) (options : Options) (section : Option (List ℕ)) (draft : Draft) (index : Indexed)
     → IsDraftOfSection text general options section draft → ((sequences : List Placed) → Collects draft.collected sequences
     → AreApart (kept_of options.skip_copies sequences)) → ((dead : Option ℕ) (units : List (ℕ × UnitParts))
@@ -207,15 +227,21 @@ pub indexed : (text general : List ℕ) (options : Options) (section : Option (L
     → index.line ≡ text → index.general ≡ general → IfSome section (λ bytes. IsIndexOfSection text general options bytes index)
 indexed text general options section draft index all apart is line_is general_is =
     weaker section (λ bytes. all.bytes ≡ bytes) (λ bytes. IsIndexOfSection text general options bytes index)
+    (λ bytes whole. index_of_bytes text general options section draft index bytes all whole apart is line_is general_is) all.whole
+
+-- the same with the extents of all live sequences
+pub indexed_with_copies : (text general : List ℕ) (options : Options) (section : Option (List ℕ)) (draft : Draft) (index : Indexed)
+    → IsDraftOfSection text general options section draft → ((sequences : List Placed) → Collects draft.collected sequences
+    → AreApart (kept_of options.skip_copies sequences)) → ((dead : Option ℕ) (units : List (ℕ × UnitParts))
+    → IsDraftOf text general dead units draft → IsIndexOf (record { dead = dead; skip = options.skip_copies; units = units }) index)
+    → index.line ≡ text → index.general ≡ general
+    → ((sequences : List Placed) → Collects draft.collected sequences → AreExtentsOf sequences index.live)
+    → IfSome section (λ bytes. IsIndexWithCopies text general options bytes index)
+unfolding index_of_bytes
+indexed_with_copies text general options section draft index all apart is line_is general_is live =
+    weaker section (λ bytes. all.bytes ≡ bytes) (λ bytes. IsIndexWithCopies text general options bytes index)
     (λ bytes whole. record {
-      units = all.units;
-      good = record {
-        spelled = subst (SectionBytes options.order all.units) whole all.spelled;
-        sound = all.draft_is.sound;
-        apart = apart (live_sequences options.dead all.units) all.draft_is.collects;
-      };
-      index_is = is options.dead all.units all.draft_is;
-      line_is = line_is;
-      general_is = general_is;
+      indexed = index_of_bytes text general options section draft index bytes all whole apart is line_is general_is;
+      live = live (live_sequences options.dead all.units) all.draft_is.collects;
     })
     all.whole

@@ -1,5 +1,5 @@
 -- What is kept of a good section by its sequences: the place of each, the programs of their units, and the string sections.
-use Rattle.std.specs.Prelude.{◌≡◌, ◌<◌, ◌==◌, ℕ, true, List, length, map, get_or, Option, Some, IsPermutation, All, option_map}
+use Rattle.std.specs.Prelude.{◌≡◌, ◌<◌, ◌==◌, ℕ, List, length, map, get_or, Option, Some, IsPermutation, All, option_map}
 use Rattle.std.specs.List.{AllByRecursion, AllZip, position, slice_get}
 use Rattle.std.specs.Option.{option_and_then, option_map_or}
 use Rattle.lnt_header.specs.Joins.{AreRising}
@@ -14,7 +14,6 @@ use Rattle.lnt_files.specs.Paths.{listed_sum, path_bytes}
 use Rattle.lnt_files.specs.Tables.{AreUsableTables}
 use Rattle.lnt_sequences.specs.declared.extent.Extent.{Extent}
 use Rattle.lnt_sequences.specs.declared.sequence.SeqId.{SeqId}
-use Rattle.lnt_sequences.specs.Copies.{AreExtentsOf}
 use Rattle.lnt_sequences.specs.Extents.{AreSettled, extents_of}
 use Rattle.lnt_sequences.specs.Rules.{AreApart, AreOrdered, HaveFiles, IsOrdered}
 use Rattle.lnt_sequences.specs.Sequences.{kept_sequences, live_in, live_sequences, Selection, answer_of, line_answer, row_at}
@@ -24,8 +23,8 @@ use Rattle.lnt_sequences.specs.Briefs.{IsCacheOf}
 use Rattle.lnt_lines.specs.declared.lookups.Cached.{Cached}
 use Rattle.lnt_lines.specs.declared.lookups.Known.{Known}
 
--- the bytes of .debug_line_str and of .debug_str, an entry for each nonempty sequence, the extents of all live sequences if copies are
--- skipped, and the offset and the program of each unit
+-- the bytes of .debug_line_str and of .debug_str, an entry for each nonempty sequence, the extents of all live sequences if they are
+-- asked for, and the offset and the program of each unit
 pub record Indexed : Type 0 where
   pub line : List ℕ
   pub general : List ℕ
@@ -40,7 +39,6 @@ pub record IsIndexOf (selection : Selection) (index : Indexed) : Type 0 where
   pub settled : AreSettled index.entries
   pub entries : IsPermutation (extents_of (kept_sequences selection)) index.entries
   pub apart : AreApart (kept_sequences selection)
-  pub live : selection.skip ≡ true → AreExtentsOf (live_sequences selection.dead selection.units) index.live
   pub ordered : AreOrdered (live_sequences selection.dead selection.units)
   pub rising : AreRising index.units
   pub offsets : index.units ≡ map (λ unit. unit.0) selection.units

@@ -14,6 +14,7 @@ use Rattle.lnt_machine.specs.Matrix.{rows, Runs}
 use Rattle.lnt_machine.specs.Walking.{KeepsProgram, KeptProgram}
 use Rattle.lnt_sequences.specs.declared.collected.Collected.{Collected}
 use Rattle.lnt_sequences.specs.declared.watch.Watch.{Watch}
+use Rattle.lnt_sequences.specs.Copies.{AreExtentsOf}
 use Rattle.lnt_sequences.specs.Sequences.{live_sequences, Placed}
 use Rattle.lnt_sequences.specs.Watching.{Collects, CollectsRows, HasSeenAll}
 use Rattle.lnt_lines.specs.declared.judge.SoundUnit.{SoundUnit}
@@ -107,6 +108,11 @@ pub record IsIndexOfSection (line general : List ℕ) (options : Options) (secti
   pub line_is : index.line ≡ line
   pub general_is : index.general ≡ general
 
+-- The same, and the index has the extents of all live sequences, copies too.
+pub record IsIndexWithCopies (line general : List ℕ) (options : Options) (section : List ℕ) (index : Indexed) : Type 0 where
+  pub indexed : IsIndexOfSection line general options section index
+  pub live : AreExtentsOf (live_sequences options.dead indexed.units) index.live
+
 -- The lines are those of the section, which is good; or it isn't good, and that is why.
 abbrev pub IsJudged : List ℕ → List ℕ → Options → List ℕ → Judged → Type 0
 IsJudged line general options section (Good lines) = AreLinesOf line general options section lines
@@ -116,3 +122,8 @@ IsJudged line general options section (Bad reason) = IsTrueNo line general optio
 abbrev pub IsJudgedIndex : List ℕ → List ℕ → Options → List ℕ → JudgedIndex → Type 0
 IsJudgedIndex line general options section (index.Good indexed) = IsIndexOfSection line general options section indexed
 IsJudgedIndex line general options section (index.Bad reason) = IsTrueNo line general options section reason
+
+-- The same of an index that has the extents of all live sequences.
+abbrev pub IsJudgedWithCopies : List ℕ → List ℕ → Options → List ℕ → JudgedIndex → Type 0
+IsJudgedWithCopies line general options section (index.Good indexed) = IsIndexWithCopies line general options section indexed
+IsJudgedWithCopies line general options section (index.Bad reason) = IsTrueNo line general options section reason

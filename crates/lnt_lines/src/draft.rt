@@ -78,34 +78,33 @@ impl Draft {
         Ok(())
     }
 
-    /// The extents of all live sequences that hold positions, if copies are skipped; else none. Fails only if memory runs out.
-    pub(crate) fn live(&self, alloc: Global, skip_copies: bool) -> Result<Vec<Extent>, AllocError>
-        ensures { IfOk result (λ live. skip_copies ≡ true → (sequences : List Placed) → Collects self.now.collected sequences
+    /// The extents of all live sequences that hold positions, if they are asked for; else none. Fails only if memory runs out.
+    pub(crate) fn live(&self, alloc: Global, with_copies: bool) -> Result<Vec<Extent>, AllocError>
+        ensures { IfOk result (λ live. with_copies ≡ true → (sequences : List Placed) → Collects self.now.collected sequences
             → AreExtentsOf sequences live.items) }
     {
-        if !skip_copies {
+        if !with_copies {
             return Ok(Vec::new(alloc));
         }
         self.collected.all_entries(alloc)
     }
 
     /// The index of the section, once its last unit was added; or the first overlap of two live sequences, apart from
-    /// copies if these are skipped. `live` gave the extents of the live ones. The strings are those with which the units were
-    /// judged.
+    /// copies if these are skipped. `live` has the extents of the live ones, or none. The strings are those with which the units
+    /// were judged.
     pub(crate) fn index<'a>(
         self,
         strings: &Strings<'a>,
         live: Vec<Extent>,
         skip_copies: bool,
     ) -> Result<Index<'a>, Overlap>
-        requires whole { IsWholeDraft strings.now.line.now strings.now.general.now self }
-        requires live { skip_copies ≡ true → (sequences : List Placed) → Collects self.collected sequences
-            → AreExtentsOf sequences live.items }
+        requires { IsWholeDraft strings.now.line.now strings.now.general.now self }
         ensures index { IfOk result (λ index. (dead : Option ℕ) (units : List (ℕ × UnitParts))
             → IsDraftOf strings.now.line.now strings.now.general.now dead units self
             → IsIndexOf (record { dead = dead; skip = skip_copies; units = units }) index) }
         ensures line { IfOk result (λ index. index.line ≡ strings.now.line.now) }
         ensures general { IfOk result (λ index. index.general ≡ strings.now.general.now) }
+        ensures live { IfOk result (λ index. index.live ≡ live.items) }
         ensures apart { OnOk result ((sequences : List Placed) → Collects self.collected sequences
             → AreApart (kept_of skip_copies sequences)) }
         ensures overlap { IfErr result (λ overlap. (sequences : List Placed) → Collects self.collected sequences

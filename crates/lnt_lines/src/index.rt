@@ -38,7 +38,7 @@ use std::marker::Model;
 pub struct Index<'a> {
     strings: Strings<'a>,
     entries: Vec<Extent>,
-    // those of all live sequences, copies too, by first position, if copies are skipped; else none
+    // those of all live sequences, copies too, by first position, if they were asked for; else none
     live: Vec<Extent>,
     units: Vec<u64>,
     programs: Vec<Program>,
@@ -173,8 +173,8 @@ impl<'a> Index<'a> {
         Spans::of(&self.units, &self.programs, &self.entries)
     }
 
-    /// The extents of all live sequences that hold positions, copies too, by first position and then by place in the section. There
-    /// are none unless copies are skipped.
+    /// The extents of all live sequences that hold positions, copies too, by first position and then by place in the section, if
+    /// `index_with_copies` made the index. Otherwise there are none.
     pub fn live(&self) -> &[Extent]
         ensures { result.now ≡ self.now.live }
     {

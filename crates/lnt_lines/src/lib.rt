@@ -33,7 +33,7 @@ mod spans;
 pub use lnt_wire::{Counted, Fault, Order, Source, SourceStop as Stop, Strings};
 pub use no::No;
 pub use options::Options;
-pub use section::{Judged, JudgedIndex, index_section, verify};
+pub use section::{Judged, JudgedIndex, index_section, index_with_copies, verify};
 
 // What a good section answers.
 pub use index::Index;

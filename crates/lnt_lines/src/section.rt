@@ -1,6 +1,6 @@
 //! A whole section, judged.
-ghost use Rattle.std.specs.Prelude.{◌≡◌, ◌-◌, ◌^◌, ◌<◌, IfOk, IfErr, IfSome};
-ghost use Rattle.lnt_lines.specs.Judging.{IsIndexOfSection, IsJudged, IsJudgedIndex};
+ghost use Rattle.std.specs.Prelude.{◌≡◌, ◌-◌, ◌^◌, ◌<◌, true, IfOk, IfErr, IfSome};
+ghost use Rattle.lnt_lines.specs.Judging.{IsIndexOfSection, IsIndexWithCopies, IsJudged, IsJudgedIndex, IsJudgedWithCopies};
 ghost use Rattle.lnt_lines.specs.Stepping.{IsDraftOfSection, IsRefusal};
 ghost use Rattle.lnt_unit.specs.declared.reader.Progress.TheVariants.{Reading};
 ghost use Rattle.lnt_unit.specs.Readers.{loan_of, offset_of, order_of, progress_of, source_of};
@@ -81,23 +81,62 @@ pub fn index_section<'a, R: Source>(
     ensures failures { CountsFailure ⟦<R as Source>⟧ section.old section.new result Stop.Read }
     ensures too_long { IsTooLongOn ⟦<R as Source>⟧ section.old section.new result Stop.TooLong }
 {
-    match judge_section(alloc, section, strings, options) {
+    index_as(alloc, section, strings, options, false)
+}
+
+/// Judges the section as `index_section` does, and returns the index of a good one with the extents of all live sequences that
+/// hold positions, copies too (`Index::live`): 48 bytes for each. It stops as `verify` does.
+pub fn index_with_copies<'a, R: Source>(
+    alloc: Global,
+    section: &mut R,
+    strings: &Strings<'a>,
+    options: &Options,
+) -> Result<JudgedIndex<'a>, Stop>
+    requires { R.failures section.old < 2 ^ 64 - 1 }
+    ensures judged { IfOk result (λ judged. IfSome (R.remaining section.old) (λ bytes.
+        IsJudgedWithCopies strings.now.line.now strings.now.general.now options.now bytes judged)) }
+    ensures failures { CountsFailure ⟦<R as Source>⟧ section.old section.new result Stop.Read }
+    ensures too_long { IsTooLongOn ⟦<R as Source>⟧ section.old section.new result Stop.TooLong }
+{
+    index_as(alloc, section, strings, options, true)
+}
+
+// Judges the section, and returns the index of a good one, with the extents of all live sequences if these are asked for.
+fn index_as<'a, R: Source>(
+    alloc: Global,
+    section: &mut R,
+    strings: &Strings<'a>,
+    options: &Options,
+    with_copies: bool,
+) -> Result<JudgedIndex<'a>, Stop>
+    requires { R.failures section.old < 2 ^ 64 - 1 }
+    ensures judged { IfOk result (λ judged. IfSome (R.remaining section.old) (λ bytes.
+        IsJudgedIndex strings.now.line.now strings.now.general.now options.now bytes judged)) }
+    ensures copies { with_copies ≡ true → IfOk result (λ judged. IfSome (R.remaining section.old) (λ bytes.
+        IsJudgedWithCopies strings.now.line.now strings.now.general.now options.now bytes judged)) }
+    ensures failures { CountsFailure ⟦<R as Source>⟧ section.old section.new result Stop.Read }
+    ensures too_long { IsTooLongOn ⟦<R as Source>⟧ section.old section.new result Stop.TooLong }
+{
+    match judge_section(alloc, section, strings, options, with_copies) {
         Ok(index) => Ok(JudgedIndex::Good(index)),
         Err(Refusal::No(no)) => Ok(JudgedIndex::Bad(no)),
         Err(Refusal::Stop(stop)) => Err(stop),
     }
 }
 
-// The index of the section, or why there is none.
+// The index of the section, with the extents of all live sequences if these are asked for; or why there is none.
 fn judge_section<'a, R: Source>(
     alloc: Global,
     section: &mut R,
     strings: &Strings<'a>,
     options: &Options,
+    with_copies: bool,
 ) -> Result<Index<'a>, Refusal>
     requires { R.failures section.old < 2 ^ 64 - 1 }
     ensures good { IfOk result (λ index. IfSome (R.remaining section.old) (λ bytes.
         IsIndexOfSection strings.now.line.now strings.now.general.now options.now bytes index)) }
+    ensures copies { with_copies ≡ true → IfOk result (λ index. IfSome (R.remaining section.old) (λ bytes.
+        IsIndexWithCopies strings.now.line.now strings.now.general.now options.now bytes index)) }
     ensures bad { IfErr result (λ refusal. IfSome (R.remaining section.old) (λ bytes.
         IsRefusal strings.now.line.now strings.now.general.now options.now bytes refusal)) }
     ensures failures { CountsFailure ⟦<R as Source>⟧ section.old section.new result (Refusal.Stop Stop.Read) }
@@ -105,7 +144,7 @@ fn judge_section<'a, R: Source>(
 {
     let mut reader = SectionReader::new(section, options.order);
     let draft = judge_units(alloc, &mut reader, strings, options)?;
-    let live = draft.live(alloc, options.skip_copies)?;
+    let live = draft.live(alloc, with_copies)?;
     Ok(draft.index(strings, live, options.skip_copies)?)
 }
 
