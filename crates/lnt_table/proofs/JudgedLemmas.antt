@@ -155,7 +155,7 @@ check_told line general options section table index (judged.ByPath outcome) i h 
 -- ---- at the positions at which the table answers
 
 -- of the section's addresses, the table answers at all but the missed ones
-counts_of : {X : Type 0} (by_table by_section : Position → Option X) (all missed : ℕ) → all ≡ addresses_answered by_section
+pub counts_of : {X : Type 0} (by_table by_section : Position → Option X) (all missed : ℕ) → all ≡ addresses_answered by_section
     → missed ≡ addresses_answered (where_missed by_table by_section) → AreCounts by_table by_section (all - missed) all
 counts_of by_table by_section all missed section out =
     record { both = omega (arith, section, out, answered_and_missed by_table by_section); section = section }

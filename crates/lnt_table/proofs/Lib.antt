@@ -11,3 +11,9 @@ pub mod OneCheckLemmas
 pub mod OneWithinLemmas
 pub mod CoveredLemmas
 pub mod CoveredWholeLemmas
+mod SaidLemmas
+mod GroupLemmas
+mod CopiesLemmas
+mod AskedLemmas
+mod AnyCopyLemmas
+mod AnyCopyLaws

@@ -1,12 +1,16 @@
 -- The laws of verdicts and of answers of `check_any`.
-use Rattle.std.specs.Prelude.{◌≡◌, ℕ, List, [], Option}
+use Rattle.std.specs.Prelude.{◌≡◌, ℕ, List, [], Option, option_map}
 use Rattle.std.specs.List.{AllByRecursion}
 use Rattle.lnt_header.specs.declared.unit_parts.UnitParts.{UnitParts}
 use Rattle.lnt_spans.specs.declared.answer.Version.{Version}
 use Rattle.lnt_spans.specs.declared.position.Position.{Position}
 use Rattle.lnt_spans.specs.declared.span.Span.{Span}
 use Rattle.lnt_spans.specs.Spans.{FitSpans, IsOfInstructions, span_answer}
-use Rattle.lnt_sequences.specs.Sequences.{Selection, line_answer}
+use Rattle.lnt_spans.specs.declared.answer.Answer.{Answer}
+use Rattle.lnt_spans.specs.Answers.{in_version}
+use Rattle.lnt_sequences.specs.Copies.{IsAnyAnswer}
+use Rattle.lnt_sequences.specs.Rules.{AreApart}
+use Rattle.lnt_sequences.specs.Sequences.{Selection, line_answer, live_sequences}
 use Rattle.lnt_records.specs.Faults.{IsUnnumbered}
 use Rattle.lnt_lines.specs.declared.options.Options.{Options}
 use Rattle.lnt_lines.specs.Contents.{Contents}
@@ -17,7 +21,7 @@ use Rattle.lnt_compare.specs.Comparisons.{stretch_told}
 use Rattle.lnt_records.specs.Table.{IsTableOfIn, by_number}
 use Rattle.lnt_records.specs.PathTables.{by_path}
 use Rattle.lnt_records.specs.declared.by_path.version.PathVersion.{PathVersion}
-use Rattle.lnt_records.specs.PathSpans.{PathAnswer}
+use Rattle.lnt_records.specs.PathSpans.{PathAnswer, path_answer}
 use Rattle.lnt_compare.specs.PathStretches.{stretch_of}
 use Rattle.lnt_compare.specs.Canonical.{IsCanonicalPathTable}
 use Rattle.lnt_table.specs.Verdicts.{Checked, Verdict}
@@ -26,7 +30,9 @@ use Rattle.lnt_table.specs.AnyVersion.{IsTrueCheck, IsTrueWithin}
 use Rattle.lnt_table.specs.declared.within.CheckedWithin.{CheckedWithin}
 use Rattle.lnt_table.specs.declared.within.CheckedWithin.TheVariants.{Checked as Told, Covered}
 use Rattle.lnt_table.specs.declared.within.Scope.{Scope}
-use Rattle.lnt_table.specs.declared.within.Scope.TheVariants.{Answered}
+use Rattle.lnt_table.specs.declared.within.Coverage.{Coverage}
+use Rattle.lnt_table.specs.declared.within.Scope.TheVariants.{All, Answered}
+use Rattle.lnt_table.specs.AnyCopy.{IsTrueOfAny, skipping}
 use Rattle.lnt_table.specs.Headline.{answer_by_path, AnswersRight, IsTrueVerdict}
 use Rattle.lnt_table.specs.declared.verdict.Verdict.TheVariants.{Yes}
 use Rattle.lnt_table.specs.Written.{IsTableOfLines, IsTableOfUnits}
@@ -143,3 +149,26 @@ pub record EmptyIsCovered : Type 0 where
   pub by_path : (line general : List ℕ) (options : Options) (section table : List ℕ) (units : List (ℕ × UnitParts))
       (version : PathVersion) → IsGood line general options section units → IsTableOfIn by_path version table []
       → IsCovered line general options section table (λ all. 0)
+
+-- ---- any of the sequences that hold a position
+
+-- A table that is right by the kept sequences is right by any of the live ones, and answers as much.
+pub record KeptIsAny : Type 0 where
+  pub numbered : (line general : List ℕ) (options : Options) (section table : List ℕ)
+      → IsTrueCheck line general (skipping options) section table (Numbered Yes)
+      → IsTrueOfAny All line general (skipping options) section table (Told (Numbered Yes))
+  pub by_path : (line general : List ℕ) (options : Options) (section table : List ℕ)
+      → IsTrueCheck line general (skipping options) section table (ByPath Same)
+      → IsTrueOfAny All line general (skipping options) section table (Told (ByPath Same))
+  pub covered : (line general : List ℕ) (options : Options) (section table : List ℕ) (coverage : Coverage)
+      → IsTrueWithin Answered line general (skipping options) section table (Covered coverage)
+      → IsTrueOfAny Answered line general (skipping options) section table (Covered coverage)
+
+-- If no position is held by two live sequences, what any of them answers is what the kept ones do, by number and by path.
+pub record AnyIsKept : Type 0 where
+  pub numbered : (version : Version) (selection : Selection) (p : Position) (said : Option Answer)
+      → AreApart (live_sequences selection.dead selection.units) → IsAnyAnswer (in_version version) selection p said
+      → said ≡ option_map (in_version version) (line_answer selection p)
+  pub by_path : (version : PathVersion) (path : ℕ → ℕ → List ℕ) (selection : Selection) (p : Position) (said : Option PathAnswer)
+      → AreApart (live_sequences selection.dead selection.units) → IsAnyAnswer (path_answer version path) selection p said
+      → said ≡ option_map (path_answer version path) (line_answer selection p)

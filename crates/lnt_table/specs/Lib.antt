@@ -1,8 +1,13 @@
+pub mod AnyCopy
 pub mod AnyVersion
+pub mod Asked
+pub mod AskedTables
 pub mod FaultTexts
+pub mod Groups
 pub mod Headline
 pub mod Judged
 pub mod Laws
+pub mod Said
 pub mod Stretches
 pub mod Verdicts
 pub mod Written

@@ -1,7 +1,7 @@
 //! Laws of answers and verdicts, each the contract of a function without parameters that does nothing.
 ghost use Rattle.lnt_spans.specs.Laws.{Borders};
 ghost use Rattle.lnt_table.specs.Laws.{OneCheck, OneNumbered, OneVerdict, OneWritten, OnlyYes, OwnTable, OwnTableByPath, OwnTableOfUnits};
-ghost use Rattle.lnt_table.specs.Laws.{CoveredIsYes, EmptyIsCovered, OneWithin, YesIsCovered};
+ghost use Rattle.lnt_table.specs.Laws.{AnyIsKept, CoveredIsYes, EmptyIsCovered, KeptIsAny, OneWithin, YesIsCovered};
 
 /// If two lists of spans, each in order and without empty spans, give the same answer at each position where a span of
 /// either begins or ends, they give the same answer at every position. So the spans of a table and of a section need to be
@@ -113,4 +113,19 @@ pub fn covered_is_yes()
 #[tactic(auto, using(crate::proofs::CoveredLemmas::empty_is_covered))]
 pub fn empty_is_covered()
     ensures { EmptyIsCovered }
+{}
+
+/// A table to which `check_any` can answer, with copies skipped, that it answers as the section does is one to which
+/// `check_any_copy` can answer so; and if `check_within` can answer that it is right wherever it answers, so can
+/// `check_any_copy`, with the same numbers.
+#[tactic(auto, using(crate::proofs::AnyCopyLaws::kept_is_any))]
+pub fn kept_is_any()
+    ensures { KeptIsAny }
+{}
+
+/// If no position is held by two live sequences, any of them that holds a position answers what the kept ones do, and if none
+/// holds it, they don't answer. So without copies `check_any_copy` and `check_within` judge each position alike.
+#[tactic(auto, using(crate::proofs::AnyCopyLaws::any_is_kept))]
+pub fn any_is_kept()
+    ensures { AnyIsKept }
 {}

@@ -19,19 +19,25 @@
 //! ```
 #![tactic(auto)]
 
+mod any_copy;
+mod asked;
 mod by_path;
 mod checking;
+mod copies;
+mod group;
 mod judged;
 mod kinds;
 pub mod laws;
 mod path_lines;
 mod paths;
+mod said;
 mod stretches;
 mod verdict;
 mod within;
 mod write;
 
 // Checking.
+pub use any_copy::check_any_copy;
 pub use by_path::{Checked, check_any};
 pub use checking::check;
 pub use kinds::OfKind;

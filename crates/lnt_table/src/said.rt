@@ -1,0 +1,150 @@
+//! Asks several sequences, from a position on, for one answer.
+ghost use Rattle.std.specs.Prelude.{◌≡◌, ◌<◌, ◌≤◌, List, Option, Some, IfOk, IfSome, IsSome};
+ghost use Rattle.lnt_spans.specs.declared.answer.Answer as spec_answer;
+ghost use Rattle.lnt_spans.specs.declared.position.Position as spec_position;
+ghost use Rattle.lnt_spans.specs.declared.span.Span as spec_span;
+ghost use Rattle.lnt_spans.specs.Positions.{IsAtMost, IsBelow};
+ghost use Rattle.lnt_spans.specs.Spans.{AreInOrder, span_answer};
+ghost use Rattle.lnt_table.specs.Said.{AnswersFrom, NoneSays, OneSays, Says, StillAnswer, all_left, left_of};
+
+use lnt_spans::{Answer, Position, Span, SpanSource};
+use std::alloc::AllocError;
+
+// An answer of a table, with which answers of sequences are compared.
+//
+// Ghost members give the meaning. `tell` is what the table contains of an answer of a sequence, and `told` what it says.
+pub(crate) trait TableAnswer {
+    ghost use Rattle.std.specs.Prelude.{◌≡◌, ◌≢◌, IfOk};
+    ghost use Rattle.std.specs.Bool.{MatchBool};
+    ghost use Rattle.lnt_spans.specs.declared.answer.Answer.{Answer as SpecAnswer};
+
+    ghost Told: { Type 0 };
+
+    ghost tell: { Self → SpecAnswer → Told };
+
+    ghost told: { Self → Told };
+
+    // Whether an answer of a sequence is this one. Fails only if memory runs out.
+    fn is_that(&self, answer: &Answer) -> Result<bool, AllocError>
+        ensures { IfOk result (λ same. MatchBool same (tell self.now answer.now ≡ told self.now)
+            (tell self.now answer.now ≢ told self.now)) };
+}
+
+// The spans of a sequence that are left, from a position on.
+#[derive(Drop)]
+pub(crate) struct SequenceSpans<S> {
+    next: Option<Span>,
+    spans: S,
+}
+
+impl<S: SpanSource> SequenceSpans<S> {
+    // All spans of the source are left.
+    pub(crate) fn of(mut spans: S) -> SequenceSpans<S>
+        ensures { (list : List spec_span.Span) (at : spec_position.Position) (answers : spec_position.Position → Option spec_answer.Answer)
+            → S.to_come spans list → AreInOrder list
+            → ((p : spec_position.Position) → span_answer list p ≡ answers p) → AnswersFrom S.to_come result at answers }
+    {
+        let next = spans.next_span();
+        SequenceSpans { next, spans }
+    }
+
+    // Up to which position, from `at` on, one of the spans says this: the end of the span that holds `at`, or `at` itself. That span and
+    // those before it are passed.
+    fn said_to<A: TableAnswer>(&mut self, answer: &A, at: Position) -> Result<Position, AllocError>
+        ensures past { IfOk result (λ to. IsAtMost at to) }
+        ensures kept { IfOk result (λ to. (answers : spec_position.Position → Option spec_answer.Answer)
+            → AnswersFrom S.to_come self.old at answers → AnswersFrom S.to_come self.new to answers) }
+        ensures said { IfOk result (λ to. (answers : spec_position.Position → Option spec_answer.Answer)
+            → AnswersFrom S.to_come self.old at answers → (p : spec_position.Position) → IsAtMost at p → IsBelow p to
+            → Says (A.tell answer.now) (A.told answer.now) answers p) }
+        ensures unsaid { IfOk result (λ to. IsAtMost to at → (answers : spec_position.Position → Option spec_answer.Answer)
+            → AnswersFrom S.to_come self.old at answers → Says (A.tell answer.now) (A.told answer.now) answers at → ⊥) }
+        ensures fewer { IfOk result (λ to. (left_of S.left self.new ≤ left_of S.left self.old)
+            × (IsBelow at to → left_of S.left self.new < left_of S.left self.old)) }
+    {
+        self.pass_to(at);
+        let Some(span) = self.next else {
+            return Ok(at);
+        };
+        if at < span.low {
+            return Ok(at);
+        }
+        if !answer.is_that(&span.answer)? {
+            return Ok(at);
+        }
+        self.pass();
+        Ok(span.high)
+    }
+
+    // Passes the spans that end at or below a position.
+    fn pass_to(&mut self, at: Position)
+        ensures kept { (answers : spec_position.Position → Option spec_answer.Answer)
+            → AnswersFrom S.to_come self.old at answers → AnswersFrom S.to_come self.new at answers }
+        ensures ends { IfSome self.new.next (λ span. IsBelow at span.high) }
+        ensures fewer { left_of S.left self.new ≤ left_of S.left self.old }
+    {
+        while let Some(span) = self.next {
+            if at < span.high {
+                return;
+            }
+            self.pass();
+        }
+    }
+
+    // Passes the next span.
+    fn pass(&mut self)
+        requires { IsSome self.old.next }
+        ensures passed { (at to : spec_position.Position) (answers : spec_position.Position → Option spec_answer.Answer)
+            (span : spec_span.Span) → AnswersFrom S.to_come self.old at answers → self.old.next ≡ Some span → IsAtMost span.high to
+            → IsAtMost at to → AnswersFrom S.to_come self.new to answers }
+        ensures fewer { left_of S.left self.new < left_of S.left self.old }
+    {
+        self.next = self.spans.next_span();
+    }
+}
+
+// The first position from `low` on at which none of the sequences says this, if it is below `high`. Otherwise some position from `high`
+// on, below which one of them says it.
+pub(crate) fn first_unsaid<S: SpanSource, A: TableAnswer>(
+    sequences: &mut [SequenceSpans<S>],
+    answer: &A,
+    low: Position,
+    high: Position,
+) -> Result<Position, AllocError>
+    ensures past { IfOk result (λ to. IsAtMost low to) }
+    ensures said { IfOk result (λ to. (p : spec_position.Position) → IsAtMost low p → IsBelow p to
+        → OneSays S.to_come (A.tell answer.now) (A.told answer.now) sequences.old low p) }
+    ensures unsaid { IfOk result (λ to. IsBelow to high
+        → NoneSays S.to_come (A.tell answer.now) (A.told answer.now) sequences.old low to) }
+{
+    let mut at = low;
+    while at < high {
+        let to = said_by_turns(sequences, answer, at)?;
+        if at >= to {
+            return Ok(at);
+        }
+        at = to;
+    }
+    Ok(at)
+}
+
+// Up to which position, from `at` on, the sequences say this, each asked once, in turn.
+fn said_by_turns<S: SpanSource, A: TableAnswer>(
+    sequences: &mut [SequenceSpans<S>],
+    answer: &A,
+    at: Position,
+) -> Result<Position, AllocError>
+    ensures past { IfOk result (λ to. IsAtMost at to) }
+    ensures kept { IfOk result (StillAnswer S.to_come sequences.old sequences.new at) }
+    ensures said { IfOk result (λ to. (p : spec_position.Position) → IsAtMost at p → IsBelow p to
+        → OneSays S.to_come (A.tell answer.now) (A.told answer.now) sequences.old at p) }
+    ensures unsaid { IfOk result (λ to. IsAtMost to at
+        → NoneSays S.to_come (A.tell answer.now) (A.told answer.now) sequences.old at at) }
+    ensures fewer { IfOk result (λ to. IsBelow at to → all_left S.left sequences.new < all_left S.left sequences.old) }
+{
+    let mut to = at;
+    for sequence in sequences.iter_mut() {
+        to = sequence.said_to(answer, to)?;
+    }
+    Ok(to)
+}
