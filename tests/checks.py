@@ -1,10 +1,12 @@
 """What `check` has to print, with --partial and without: a slow reference, which compares the two answers between each two borders.
 
-    checks.py check SECTION TABLE [--partial [--at-least P]] [--all [--ends]] [--big] [--line-str FILE] [--str FILE] [--dead ADDRESS] [--skip-copies]
+    checks.py check SECTION TABLE [--partial [--at-least P]] [--all [--ends]] [--any-copy] [--big] [--line-str FILE] [--str FILE] [--dead ADDRESS]
+            [--skip-copies]
         prints it, with the exit status that the program has to end with
-    checks.py make [--partial] FOLDER COUNT SEED [SECTION..]
+    checks.py make [--partial] [--any-copy] FOLDER COUNT SEED [SECTION..]
         writes so many cases, as tests/cases/README.md has them, of sections that are picked at random and of these: sections and tables,
-        the words, and what has to be printed. The line strings of a section lie beside it, with `_str` after its name
+        the words, and what has to be printed. With --any-copy most sections have copies that answer otherwise. The line strings of a
+        section lie beside it, with `_str` after its name
 """
 
 import argparse
@@ -86,8 +88,8 @@ def told(section, version, unit, row):
     return numbers if version == 1 else (*numbers, row.isa, row.discriminator)
 
 
-def told_spans(section, version):
-    return [Span(span.low, span.high, told(section, version, *span.answer)) for span in section.spans]
+def told_spans(section, version, spans):
+    return [Span(span.low, span.high, told(section, version, *span.answer)) for span in spans]
 
 
 class Answers:
@@ -101,11 +103,26 @@ class Answers:
         return self.spans[place].answer if place < len(self.spans) and self.spans[place].low <= position else None
 
 
-def pieces(table, section):
-    """Between each two borders, one behind the other, the answers of both: from where, up to where, the table's and the section's."""
-    borders = sorted({border for span in table + section for border in (span.low, span.high)})
-    by_table, by_section = Answers(table), Answers(section)
-    return [(low, high, by_table.at(low), by_section.at(low)) for low, high in zip(borders, borders[1:])]
+@dataclass
+class Piece:
+    """What both answer between two borders, one behind the other, and what any sequence does that counts there."""
+
+    low: tuple
+    high: tuple
+    by_table: object
+    by_section: object
+    by_any: set
+
+    def is_right(self):
+        return self.by_table == self.by_section or self.by_table is not None and self.by_table in self.by_any
+
+
+def pieces(table, section, sequences):
+    """The answers of a table and of a section between each two borders, and those of sequences each of which counts."""
+    borders = sorted({border for spans in (table, section, *sequences) for span in spans for border in (span.low, span.high)})
+    by_table, by_section, by_each = Answers(table), Answers(section), [Answers(spans) for spans in sequences]
+    return [Piece(low, high, by_table.at(low), by_section.at(low), {answers.at(low) for answers in by_each})
+            for low, high in zip(borders, borders[1:])]
 
 
 def shown(answer):
@@ -119,15 +136,16 @@ def quoted(path):
 
 
 def stretches(pieces_of, partial):
-    """Each longest run of positions at which the two answers differ and stay the same two: the first position, the first one after it,
-    and the two."""
+    """Each longest run of positions at which the table is wrong and the two answers stay the same two: the first position, the first one
+    after it, and the two."""
     found = []
-    for low, high, by_table, by_section in pieces_of:
-        if by_table == by_section or partial and by_table is None:
+    for piece in pieces_of:
+        if piece.is_right() or partial and piece.by_table is None:
             continue
-        if found and found[-1][1:] == (low, by_table, by_section):
+        low, both = piece.low, (piece.by_table, piece.by_section)
+        if found and found[-1][1:] == (low, *both):
             low = found.pop()[0]
-        found.append((low, high, by_table, by_section))
+        found.append((low, piece.high, *both))
     return found
 
 
@@ -140,11 +158,11 @@ def addresses_in(low, high):
 def counts(pieces_of):
     """At how many addresses both answer, and at how many the section does."""
     both = whole = 0
-    for low, high, by_table, by_section in pieces_of:
-        if by_section is not None:
-            count = addresses_in(low, high)
+    for piece in pieces_of:
+        if piece.by_section is not None:
+            count = addresses_in(piece.low, piece.high)
             whole += count
-            both += count if by_table is not None else 0
+            both += count if piece.by_table is not None else 0
     return both, whole
 
 
@@ -154,21 +172,34 @@ def line_40(stretch, ends):
     return "no 40 differs at %s table %s section %s\n" % (place, shown(by_table), shown(by_section))
 
 
-def check(section, table, partial, all_stretches, ends=False, at_least=0):
+@dataclass
+class Asked:
+    """How a table is compared: at the positions at which it answers alone, at all places, with their ends, with a share that is asked for,
+    and with each live sequence as right."""
+
+    partial: bool = False
+    all: bool = False
+    ends: bool = False
+    at_least: int = 0
+    any_copy: bool = False
+
+
+def check(section, table, asked):
     """The lines that are printed of the bytes of a table, and the status. The section is a function, which judges it first."""
     try:
         section = section()
         version, spans = table_of(table)
     except No as no:
         return "%s\n" % no, 1
-    compared = pieces(spans, told_spans(section, version))
-    found = stretches(compared, partial)
+    sequences = [told_spans(section, version, sequence.spans()) for sequence in (section.live if asked.any_copy else ())]
+    compared = pieces(spans, told_spans(section, version, section.spans), sequences)
+    found = stretches(compared, asked.partial)
     if found:
-        return "".join(line_40(stretch, ends) for stretch in (found if all_stretches else found[:1])), 1
-    if not partial:
+        return "".join(line_40(stretch, asked.ends) for stretch in (found if asked.all else found[:1])), 1
+    if not asked.partial:
         return "yes\n", 0
     both, whole = counts(compared)
-    few = both * 100 < at_least * whole
+    few = both * 100 < asked.at_least * whole
     return ("no 46 " if few else "yes\n") + "answers %d of %d\n" % (both, whole), int(few)
 
 
@@ -187,7 +218,8 @@ class Given:
     def section(self):
         dead = next((int(word[7:], 16) for word in self.words if word.startswith("--dead=")), None)
         order = "big" if "--big" in self.words else "little"
-        return Section(self.data, Strings(self.line, self.general), order, dead, "--skip-copies" in self.words)
+        skips = not {"--skip-copies", "--any-copy"}.isdisjoint(self.words)
+        return Section(self.data, Strings(self.line, self.general), order, dead, skips)
 
     def is_good(self):
         try:
@@ -196,18 +228,20 @@ class Given:
             return False
 
 
-def picked_section(picked):
-    """Some units with some sequences, which are in no order. Some are discarded code, which begins at 0, and some are copies."""
+def picked_section(picked, others=False):
+    """Some units with some sequences, which are in no order. Some are discarded code, which begins at 0, and some are copies; if others are
+    asked for, most are, and answer otherwise."""
     order, address_size = picked.choice(("little", "little", "big")), picked.choice((8, 8, 4, 2))
     places = [0x1000 * place + picked.randrange(16) for place in range(1, 12)]
     picked.shuffle(places)
-    dead, again = picked.randrange(5) == 0, picked.randrange(5) == 0
+    dead, again = picked.randrange(5) == 0, picked.randrange(5) == 0 or others
     strings, data = {LINE_STRP: b"\0", STRP: b"\0"}, b""
     for _ in range(picked.randrange(1, 4)):
         shape = Shape(5, order, picked.choice((4, 4, 8)), address_size, numbers(picked))
         taken = [places.pop() for _ in range(picked.choice((0, 1, 1, 2, 3)))] + [0] * (dead and picked.randrange(3))
-        data += picked_unit(picked, shape, strings, taken, again)
+        data += picked_unit(picked, shape, strings, taken, again, others)
     words = ["--big"] * (order == "big") + ["--skip-copies"] * (again and picked.randrange(8) > 0)
+    words += ["--any-copy"] * (others and picked.randrange(8) > 0)
     return Given(data, strings[LINE_STRP], strings[STRP], tuple(words + ["--dead=0x0"] * (dead and picked.randrange(8) > 0)))
 
 
@@ -252,6 +286,20 @@ def one_shifted(picked, spans, at):
     by = picked.choice((-2, -1, 1, 3))
     spans[at] = Span(moved(spans[at].low, by), moved(spans[at].high, by), spans[at].answer)
     return spans
+
+
+def of_another(picked, section, version):
+    """Spans of each place by one of the sequences there, or by several of them in turns."""
+    places = {}
+    for sequence in section.live:
+        places.setdefault((sequence.first(), sequence.end()), []).append(sequence.spans())
+    spans = []
+    for place in places.values():
+        cut = picked.choice([span.low for spans_of in place for span in spans_of] or [(0, 0)])
+        one, other = picked.choice(place), picked.choice(place)
+        spans += [replace(span, high=min(span.high, cut)) for span in one if span.low < cut]
+        spans += [replace(span, low=max(span.low, cut)) for span in other if span.high > cut]
+    return sorted(told_spans(section, version, spans), key=lambda span: span.low)
 
 
 def one_wrong(picked, spans, at):
@@ -354,9 +402,11 @@ def faulty(picked, lines):
     return lines
 
 
-def picked_table(picked, section, version):
+def picked_table(picked, section, version, others):
     """A table of a version made of the section's own, with some changes, and their names."""
-    spans, names = told_spans(section, version), []
+    spans, names = told_spans(section, version, section.spans), []
+    if others and picked.randrange(4):
+        spans, names = of_another(picked, section, version), ["copies"]
     if version > 2 and picked.randrange(8):
         spans = at_addresses(spans)
     for _ in range(picked.choice((0, 1, 1, 1, 2, 3))):
@@ -375,34 +425,37 @@ def picked_table(picked, section, version):
 # ---- cases
 
 
-def picked_options(picked, is_partial):
-    """Whether all stretches are told, whether of a part alone, whether with their ends, and which share is asked for, if one is."""
-    all_stretches = picked.randrange(2) > 0
+def picked_options(picked, is_partial, any_copy):
+    """How a table is compared, and the words for it, but for that any copy counts: then not all places are told."""
+    asked = Asked(all=picked.randrange(2) > 0 and not any_copy, any_copy=any_copy)
+    words = ["--all"] * asked.all
     if not is_partial:
-        return all_stretches, False, False, None
-    partial = picked.randrange(6) > 0
-    ends, at_least = all_stretches and picked.randrange(2) > 0, picked.choice((None, None, 0, 1, 50, 99, 100, picked.randrange(101)))
-    return all_stretches, partial, ends, at_least if partial else None
+        return asked, words
+    asked.partial, asked.ends = picked.randrange(6) > 0, asked.all and picked.randrange(2) > 0
+    at_least = picked.choice((None, None, 0, 1, 50, 99, 100, picked.randrange(101)))
+    words += ["--partial"] * asked.partial + ["--ends"] * asked.ends
+    if asked.partial and at_least is not None:
+        asked.at_least = at_least
+        words.append("--at-least=%0*d" % (picked.randrange(1, 4), at_least))
+    return asked, words
 
 
-def made_case(picked, sections, is_partial):
+def made_case(picked, sections, is_partial, others):
     """The name, words and files of a case, what has to be printed, and the status."""
-    given = picked.choice(sections) if sections and picked.randrange(3) == 0 else picked_section(picked)
+    given = picked.choice(sections) if sections and picked.randrange(3) == 0 else picked_section(picked, others)
     if picked.randrange(12) == 0:
         given = end_of_addresses(picked)
     version = picked.randrange(1, 5)
     try:
-        table, names = picked_table(picked, given.section(), version)
+        table, names = picked_table(picked, given.section(), version, others)
     except No:
         table, names = b",".join(VERSIONS[version]) + b"\n", ["bad section"]
     if picked.randrange(20) == 0:
         given, names = broken(picked, given), ["broken"]
-    all_stretches, partial, ends, at_least = picked_options(picked, is_partial)
-    said, status = check(given.section, table, partial, all_stretches, ends, at_least or 0)
+    asked, words = picked_options(picked, is_partial, "--any-copy" in given.words)
+    said, status = check(given.section, table, asked)
     files = {"section.bin": given.data, "table.csv": table}
-    words = ["check", "section.bin", "table.csv", *["--partial"] * partial, *["--all"] * all_stretches, *["--ends"] * ends, *given.words]
-    if at_least is not None:
-        words.append("--at-least=%0*d" % (picked.randrange(1, 4), at_least))
+    words = ["check", "section.bin", "table.csv", *words, *given.words]
     for option, strings in ("--line-str", given.line), ("--str", given.general):
         if strings:
             words.append("%s=%s.bin" % (option, option[2:]))
@@ -417,10 +470,10 @@ def beside(name):
     return next((given for given in found if given.is_good()), found[0])
 
 
-def make(folder, count, seed, names, is_partial=False):
+def make(folder, count, seed, names, is_partial=False, others=False):
     picked, sections = random.Random(seed), [beside(name) for name in names]
     for number in range(count):
-        name, words, files, said, status = made_case(picked, sections, is_partial)
+        name, words, files, said, status = made_case(picked, sections, is_partial, others)
         write_case(os.path.join(folder, "%06d-%s" % (number, name)), words, files, said.encode(), status)
 
 
@@ -434,13 +487,14 @@ def words():
     for name in "section", "table":
         checked.add_argument(name)
     checked.add_argument("--at-least", type=int, default=0)
-    for name in "--partial", "--all", "--ends", "--big", "--skip-copies", "--quiet":
+    for name in "--partial", "--all", "--ends", "--any-copy", "--big", "--skip-copies", "--quiet":
         checked.add_argument(name, action="store_true")
     for name in "--line-str", "--str":
         checked.add_argument(name)
     checked.add_argument("--dead", type=lambda word: int(word, 16))
     made = words.add_parser("make", allow_abbrev=False)
     made.add_argument("--partial", action="store_true")
+    made.add_argument("--any-copy", action="store_true")
     made.add_argument("folder")
     for name in "count", "seed":
         made.add_argument(name, type=int)
@@ -452,14 +506,14 @@ def checked(given):
     """What `check` prints with these words, and the status."""
     strings = Strings(*(held(name) if name else b"" for name in (given.line_str, given.str)))
     data, table = held(given.section), held(given.table)
-    section = lambda: Section(data, strings, "big" if given.big else "little", given.dead, given.skip_copies)
-    return check(section, table, given.partial, given.all, given.ends, given.at_least)
+    section = lambda: Section(data, strings, "big" if given.big else "little", given.dead, given.skip_copies or given.any_copy)
+    return check(section, table, Asked(given.partial, given.all, given.ends, given.at_least, given.any_copy))
 
 
 def main():
     given = words().parse_args()
     if given.word == "make":
-        make(given.folder, given.count, given.seed, given.sections, given.partial)
+        make(given.folder, given.count, given.seed, given.sections, given.partial, given.any_copy)
         return
     said, status = checked(given)
     sys.stdout.write(said)

@@ -375,6 +375,10 @@ class Sequence:
     def holds_any(self):
         return self.first() < self.end()
 
+    def spans(self):
+        return [Span(row.position(), after.position(), (self.unit, row)) for row, after in zip(self.rows, self.rows[1:])
+                if row.position() < after.position()]
+
 
 def sequences_of(unit):
     machine, sequences, rows, count = Machine(unit), [], [], 0
@@ -505,13 +509,9 @@ class Section:
             judge_rows(unit, alive)
             self.units[unit.offset] = unit
             live += alive
+        self.live = live
         self.sequences = judge_apart(without_copies(live) if skip_copies else live)
-        self.spans = [
-            Span(row.position(), after.position(), (sequence.unit, row))
-            for sequence in self.sequences
-            for row, after in zip(sequence.rows, sequence.rows[1:])
-            if row.position() < after.position()
-        ]
+        self.spans = [span for sequence in self.sequences for span in sequence.spans()]
 
     def path(self, unit, file):
         """The whole path of a file."""

@@ -96,6 +96,7 @@ class Program:
     def __init__(self, picked, shape, files):
         self.picked, self.shape, self.numbers, self.files = picked, shape, shape.numbers, files
         self.bytes = bytearray()
+        self.cuts = []  # where each row of the last sequence begins, its end, and where that ends
 
     def standard(self, opcode, operand=b""):
         """A standard operation, where opcode_base leaves its number to it."""
@@ -159,10 +160,25 @@ class Program:
         self.set_address(address)
         self.standard(ADVANCE_LINE, sleb(200))
         self.standard(SET_FILE, leb(self.picked.choice(self.files)))
+        self.cuts = []
         for _ in range(rows):
+            self.cuts.append(len(self.bytes))
             self.row()
+        self.cuts.append(len(self.bytes))
         self.standard(ADVANCE_PC, leb(self.picked.randrange(1, 9)))
         self.bytes += extended(END_SEQUENCE, b"", self.picked.choice((0, 0, 0, 1)))
+        self.cuts.append(len(self.bytes))
+
+    def copy(self, begin, is_other):
+        """The last sequence, which begins there, once more; if it is to be another one, with other lines or files from some rows on."""
+        whole, before = bytes(self.bytes), begin
+        for cut in self.cuts:
+            self.bytes += whole[before:cut]
+            before = cut
+            if is_other and cut != self.cuts[-1] and self.picked.randrange(3) == 0:
+                self.standard(ADVANCE_LINE, sleb(self.picked.randrange(-2, 4)))
+                if self.picked.randrange(3) == 0:
+                    self.standard(SET_FILE, leb(self.picked.choice(self.files)))
 
 
 def path_bytes(shape, form, path, strings):
@@ -190,8 +206,9 @@ def table_bytes(picked, shape, paths, strings, directories):
     return out
 
 
-def picked_unit(picked, shape, strings, places, again):
-    """A unit with a sequence at each of these places, and once more with a sequence that was there before, where one is given."""
+def picked_unit(picked, shape, strings, places, again, others=False):
+    """A unit with a sequence at each of these places, and if there are to be copies, with some of them again, as others if they are to be
+    so."""
     directories = [picked.choice(DIRECTORIES) for _ in range(picked.randrange(1, 4))]
     files = [picked.choice(PATHS) for _ in range(picked.randrange(2, 6))]
     tables = table_bytes(picked, shape, directories, strings, 0) + table_bytes(picked, shape, files, strings, len(directories))
@@ -199,8 +216,9 @@ def picked_unit(picked, shape, strings, places, again):
     for place in places:
         begin = len(program.bytes)
         program.sequence(place, picked.randrange(7))
-        if again and picked.randrange(2):
-            program.bytes += program.bytes[begin:]
+        for _ in range(1 + 2 * others):
+            if again and picked.randrange(2):
+                program.copy(begin, others and picked.randrange(4) > 0)
     return shape.unit(tables, bytes(program.bytes))
 
 

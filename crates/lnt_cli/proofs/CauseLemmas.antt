@@ -38,9 +38,9 @@ long_found finds found remaining left is_found whole long =
 -- a file of both that is too long
 long_with : (finds : List ℕ → FileState → Type 0) (from : Judging) (file : List ℕ) (question : FileQuestion) (name : List ℕ)
     → IsFileOfBoth from file name → IsTooLongFile (finds name) → IsLongWith finds from file question name
-long_with finds from file (Check false ends partial at_least) name is_one long =
+long_with finds from file (Check false ends partial at_least any_copy) name is_one long =
     record { name = name; is_one = is_one; is_long = long }
-long_with finds from file (Check true ends partial at_least) name is_one long = long
+long_with finds from file (Check true ends partial at_least any_copy) name is_one long = long
 long_with finds from file (Lines op) name is_one long = long
 
 -- A file that was told when both were opened.

@@ -1,7 +1,8 @@
 -- The answers to requests, and the bytes of which they are true.
 --     tells       what the opener may say of the file with a name, as the run begins
 --     old, new    what the writer of the answer holds before and afterwards
-use Rattle.std.specs.Prelude.{◌≡◌, ℕ, List, [], Option, None, IfSome, IsSomeAnd, MatchOption, false, string_bytes}
+use Rattle.std.specs.Prelude.{◌≡◌, ℕ, List, [], Option, None, IfSome, IsSomeAnd, MatchOption, string_bytes}
+use Rattle.std.specs.Prelude.{Bool, false, true}
 use Rattle.std.specs.Option.{option_copied}
 use Rattle.std.specs.Io.KnownBytes.{Appends}
 use Rattle.lnt_io.specs.Files.{AreBytesOf, FileState, Readable}
@@ -21,6 +22,7 @@ use Rattle.lnt_words.specs.declared.request.Request.TheVariants.{Help, Read, Upg
 use Rattle.lnt_words.specs.declared.request.Upgrading.{Upgrading}
 use Rattle.lnt_table.specs.declared.within.CheckedWithin.{CheckedWithin}
 use Rattle.lnt_table.specs.declared.within.Scope.{Scope}
+use Rattle.lnt_table.specs.AnyCopy.{IsTrueOfAny, skipping}
 use Rattle.lnt_table.specs.AnyVersion.{IsOfScope, IsTrueOfSectionWithin, IsTrueWithin, scope_in}
 use Rattle.lnt_answers.specs.Verdicts.{checked_line, checked_status}
 use Rattle.lnt_words.specs.Words.{size_bytes}
@@ -31,6 +33,11 @@ use Rattle.lnt_cli.specs.Questions.{AnswersGood, AnswersGoodFile, AnswersJudged,
 -- the options with which a section is read and judged
 abbrev pub options_in : Judging → Options
 options_in from = record { order = from.order; dead = from.dead; skip_copies = from.skip_copies }
+
+-- the options of a check: where any copy counts, copies are skipped
+abbrev pub options_by : Bool → Options → Options
+options_by false options = options
+options_by true options = skipping options
 
 -- This is true of the bytes of the named file, which may be unknown.
 pub record IsOfBytes (finds : List ℕ → FileState → Type 0) (name : List ℕ) (IsSo : Option (List ℕ) → Type 0) : Type 0 where
@@ -62,14 +69,21 @@ IsOfFile finds from file IsSo = IsOfBytes finds file (λ bytes. IsOfSection find
 
 -- ---- sections that are compared with a table
 
+-- What a check answers is true: by the answers of the sequences that are kept, or if any copy counts, by those of each live sequence.
+abbrev pub IsTrueBy : Bool → Scope → List ℕ → List ℕ → Options → List ℕ → List ℕ → CheckedWithin → Type 0
+IsTrueBy false = IsTrueWithin
+IsTrueBy true = IsTrueOfAny
+
 -- The check's answer is true of the section and of the table (text), of any version, at the positions of the scope; it was written, and
 -- nothing else, and the run ends with its status. A table that is right wherever it answers has to answer at this percentage of the
 -- section's addresses (at_least). What it says of the section is true even if nothing is known of the table's bytes.
-pub record IsChecked (from : Judging) (scope : Scope) (at_least : ℕ) (old new : Option (List ℕ)) (status : Status) (text : Option (List ℕ))
-    (line general : List ℕ) (section : Option (List ℕ)) : Type 0 where
+pub record IsChecked (from : Judging) (any_copy : Bool) (scope : Scope) (at_least : ℕ) (old new : Option (List ℕ)) (status : Status)
+    (text : Option (List ℕ)) (line general : List ℕ) (section : Option (List ℕ)) : Type 0 where
   pub checked : CheckedWithin
-  pub is_true : IfSome section (λ bytes. IfSome text (λ table. IsTrueWithin scope line general (options_in from) bytes table checked))
-  pub is_true_of_section : IfSome section (λ bytes. IsTrueOfSectionWithin line general (options_in from) bytes checked)
+  pub is_true : IfSome section (λ bytes. IfSome text (λ table.
+      IsTrueBy any_copy scope line general (options_by any_copy (options_in from)) bytes table checked))
+  pub is_true_of_section : IfSome section (λ bytes.
+      IsTrueOfSectionWithin line general (options_by any_copy (options_in from)) bytes checked)
   pub of_scope : IsOfScope checked scope
   pub printed : Appends old new (checked_line at_least checked)
   pub status_is : status ≡ checked_status at_least checked
@@ -94,8 +108,8 @@ AnswersQuestion finds from question old new status =
 -- is judged says of the file.
 abbrev pub AnswersFile : (List ℕ → FileState → Type 0) → Judging → List ℕ → FileQuestion → Option (List ℕ) → Option (List ℕ) → Status
     → Type 0
-AnswersFile finds from file (Check false ends partial at_least) old new status =
-    IsOfFile finds from file (IsChecked from (scope_in partial) at_least old new status)
+AnswersFile finds from file (Check false ends partial at_least any_copy) old new status =
+    IsOfFile finds from file (IsChecked from any_copy (scope_in partial) at_least old new status)
 AnswersFile finds from file question old new status =
     IsOfFile finds from file (λ bytes. IsJudgedSo from (AnswersJudged (AnswersGoodFile question bytes) old new status))
 

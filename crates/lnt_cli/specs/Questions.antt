@@ -96,10 +96,10 @@ pub record AreTableStretchesPrinted (report : Report) (index : Indexed) (table o
   pub status_is : status ≡ outcome_status found
   pub so : AreStretchesOfIndex report index table old new found
 
--- The answer for a good section with this index and another file, of these bytes.
+-- The answer for a good section with this index and another file, of these bytes. Copies aren't asked of all positions.
 abbrev pub AnswersGoodFile : FileQuestion → Option (List ℕ) → Indexed → Option (List ℕ) → Option (List ℕ) → Status → Type 0
 AnswersGoodFile (Lines op) bytes index old new status = AreAddressesPrinted index op bytes old new status
-AnswersGoodFile (Check all ends partial at_least) bytes index old new status =
+AnswersGoodFile (Check all ends partial at_least any_copy) bytes index old new status =
     AreTableStretchesPrinted (report_in ends partial at_least) index bytes old new status
 
 -- The answer for a section with this judgement: for a good one this, and for another the line that says why it isn't good.
@@ -130,7 +130,7 @@ BeginsGood finds (TableByPath false) index old new = BeginsPathTableText Four in
 -- those of that file.
 abbrev pub BeginsGoodFile : FileQuestion → Option (List ℕ) → Indexed → Option (List ℕ) → Option (List ℕ) → Type 0
 BeginsGoodFile (Lines op) bytes index old new = AreAddressesBegun index op bytes old new
-BeginsGoodFile (Check all ends partial at_least) bytes index old new = OfUnits index (λ selection. IfSome bytes
+BeginsGoodFile (Check all ends partial at_least any_copy) bytes index old new = OfUnits index (λ selection. IfSome bytes
     (λ text. AreStretchesBegun (report_in ends partial at_least) index selection text old new))
 
 -- A prefix of the answer for a section with this judgement.

@@ -1,6 +1,6 @@
 -- How a run was stopped, and the files that a request names.
 use Rattle.std.specs.Prelude.{◌≡◌, ◌≢◌, ◌⊎◌, ◌+◌, ◌<◌, ℕ, IfSome, IsErrAnd, IsTrue, List, Option, Result, Some, string_bytes}
-use Rattle.std.specs.Prelude.{option_copied, false}
+use Rattle.std.specs.Prelude.{Bool, option_copied, false}
 use Rattle.lnt_io.specs.Files.{FileState, IsTooLongFile, Readable, RefusesOnly}
 use Rattle.lnt_io.specs.Stopping.{IsFoundTooLong}
 use Rattle.lnt_io.specs.declared.source.Source.{Ghosts}
@@ -90,7 +90,7 @@ pub record IsOneTooLong (finds : List ℕ → FileState → Type 0) (AreThese : 
 
 -- The file with this name has more than 2^40 bytes, if its bytes are known; for a check without --all, one of its files has.
 abbrev pub IsLongWith : (List ℕ → FileState → Type 0) → Judging → List ℕ → FileQuestion → List ℕ → Type 0
-IsLongWith finds from file (Check false ends partial at_least) name = IsOneTooLong finds (IsFileOfBoth from file)
+IsLongWith finds from file (Check false ends partial at_least any_copy) name = IsOneTooLong finds (IsFileOfBoth from file)
 IsLongWith finds from file question name = IsTooLongFile (finds name)
 
 -- the same of a file that a stop of this request tells as too long
@@ -175,15 +175,15 @@ BeginsQuestion finds from question old new =
     IsOfSection finds from (IsJudgedSo from (BeginsJudged (BeginsGood finds question) old new))
 
 -- a prefix of the answer to a check, of a table with these bytes (text)
-abbrev pub BeginsChecked : Judging → Scope → ℕ → Option (List ℕ) → Option (List ℕ) → Option (List ℕ) → List ℕ → List ℕ → Option (List ℕ)
-    → Type 0
-BeginsChecked from scope at_least old new text line general section =
-    HasBegun (λ end status. IsChecked from scope at_least old end status text line general section) old new
+abbrev pub BeginsChecked : Judging → Bool → Scope → ℕ → Option (List ℕ) → Option (List ℕ) → Option (List ℕ) → List ℕ → List ℕ
+    → Option (List ℕ) → Type 0
+BeginsChecked from any_copy scope at_least old new text line general section =
+    HasBegun (λ end status. IsChecked from any_copy scope at_least old end status text line general section) old new
 
 -- A prefix of the answer to the question about the section and the file with this name was written.
 abbrev pub BeginsFile : (List ℕ → FileState → Type 0) → Judging → List ℕ → FileQuestion → Option (List ℕ) → Option (List ℕ) → Type 0
-BeginsFile finds from file (Check false ends partial at_least) old new =
-    IsOfFile finds from file (BeginsChecked from (scope_in partial) at_least old new)
+BeginsFile finds from file (Check false ends partial at_least any_copy) old new =
+    IsOfFile finds from file (BeginsChecked from any_copy (scope_in partial) at_least old new)
 BeginsFile finds from file question old new =
     IsOfFile finds from file (λ bytes. IsJudgedSo from (BeginsJudged (BeginsGoodFile question bytes) old new))
 

@@ -4,16 +4,18 @@ ghost use Rattle.lnt_answers.specs.Stretches.{outcome_status};
 ghost use Rattle.lnt_answers.specs.Verdicts.{checked_status};
 ghost use Rattle.lnt_notes.specs.Notes.{TellsNotes, WritesNotes};
 
+use crate::check::TableCheck;
 use crate::stop::FileStop;
 use lnt_answers::{Stretches, status_of};
 use lnt_compare::Compared;
 use lnt_io::{Files, IoStop, Status};
 use lnt_lines::No;
 use lnt_notes::{
-    Columns, Given, Hints, Seen, note_agreed, note_bad, note_good, note_no_symbols, note_refused,
-    note_table, print_line_of, print_note,
+    Columns, Given, Hints, Seen, note_agreed, note_bad, note_difference, note_good, note_no_symbols,
+    note_refused, note_table, print_line_of, print_note,
 };
 use lnt_records::TableFault;
+use lnt_spans::Position;
 use lnt_table::{CheckedWithin, OfKind, Scope, TableNo, Verdict};
 use lnt_text::Note;
 use lnt_words::{Judging, Request, Upgrading, WordsStop};
@@ -31,6 +33,8 @@ pub(crate) enum Occasion<'t> {
     Bad(No),
     // The table in the file with this name was compared with the section.
     Compared(&'t str),
+    // The answers of the table and of the sequence that is kept differ at this position, which is the first.
+    Differs(Position),
     // The table answers a part, and was compared there.
     Part,
     // The table in the file with this name has this fault, by these columns.
@@ -66,24 +70,27 @@ impl<'t> Answered<'t> {
     }
 
     // What is answered to the check of the table in the file with this name.
-    pub(crate) fn of_check(checked: &CheckedWithin, at_least: u64, table: &'t str) -> Answered<'t>
-        ensures { result.status ≡ checked_status at_least checked.now }
+    pub(crate) fn of_check(checked: &CheckedWithin, asked: TableCheck, table: &'t str) -> Answered<'t>
+        ensures { result.status ≡ checked_status asked.at_least checked.now }
     {
         match checked {
             CheckedWithin::Covered(coverage) if coverage.all > 0 => Answered {
-                status: status_of(checked, at_least),
+                status: status_of(checked, asked.at_least),
                 occasion: Occasion::Part,
             },
             CheckedWithin::Covered(_)
             | CheckedWithin::Checked(
                 OfKind::Numbered(Verdict::Yes) | OfKind::ByPath(Compared::Same),
             ) => Answered {
-                status: status_of(checked, at_least),
+                status: status_of(checked, asked.at_least),
                 occasion: Occasion::Compared(table),
             },
             CheckedWithin::Checked(OfKind::Numbered(Verdict::No(TableNo::Section(no)))) => {
                 Answered::no(Occasion::Bad(*no))
             }
+            CheckedWithin::Checked(OfKind::Numbered(Verdict::No(TableNo::Differs {
+                position, ..
+            }))) => Answered::no(differs_at(*position, asked, table)),
             CheckedWithin::Checked(OfKind::Numbered(Verdict::No(no))) => {
                 Answered::no(match no.fault() {
                     Some(fault) => Occasion::Faulty(table, fault, Columns::Numbered),
@@ -93,8 +100,8 @@ impl<'t> Answered<'t> {
             CheckedWithin::Checked(OfKind::ByPath(Compared::Fault(fault))) => {
                 Answered::no(Occasion::Faulty(table, *fault, Columns::ByPath))
             }
-            CheckedWithin::Checked(OfKind::ByPath(Compared::Differs(_))) => {
-                Answered::no(Occasion::Compared(table))
+            CheckedWithin::Checked(OfKind::ByPath(Compared::Differs(difference))) => {
+                Answered::no(differs_at(difference.position, asked, table))
             }
         }
     }
@@ -119,6 +126,15 @@ impl<'t> Answered<'t> {
                 },
             },
         }
+    }
+}
+
+// What notes depend on if the answers differ at this position first. If any copy counts, none of them is right there.
+fn differs_at<'t>(position: Position, asked: TableCheck, table: &'t str) -> Occasion<'t> {
+    if asked.any_copy {
+        Occasion::Compared(table)
+    } else {
+        Occasion::Differs(position)
     }
 }
 
@@ -147,9 +163,7 @@ pub(crate) fn print_notes<O: Files, N: Write>(
     ensures { WritesNotes (N.contents notes.old) (N.contents notes.new) }
 {
     match ended {
-        Ok(answered) => {
-            let _ = note_answer(alloc, request, answered, seen, opener, notes);
-        }
+        Ok(answered) => note_ended(alloc, request, answered, seen, opener, notes),
         Err(FileStop::Read(_)) => {
             if let Some(reason) = opener.reason(alloc) {
                 let _ = print_line_of(alloc, &reason, notes);
@@ -159,7 +173,28 @@ pub(crate) fn print_notes<O: Files, N: Write>(
     }
 }
 
-// Writes the notes to an answer.
+// Writes the notes to a request with this answer.
+fn note_ended<O: Files, N: Write>(
+    alloc: Global,
+    request: &Request<'_>,
+    answered: &Answered<'_>,
+    seen: &Seen,
+    opener: &O,
+    notes: &mut N,
+)
+    ensures { WritesNotes (N.contents notes.old) (N.contents notes.new) }
+{
+    match (request, answered.occasion) {
+        (Request::JudgeWith { from, .. }, Occasion::Differs(position)) => {
+            let _ = note_difference(alloc, position, &given_of(from), opener, notes);
+        }
+        _ => {
+            let _ = note_answer(alloc, request, answered, seen, opener, notes);
+        }
+    }
+}
+
+// Writes the notes to an answer that has only such notes as `lnt_text` has texts of.
 fn note_answer<O: Files, N: Write>(
     alloc: Global,
     request: &Request<'_>,
@@ -212,7 +247,7 @@ fn note_judged<O: Files, N: Write>(
         Occasion::Part if answered.status == Status::Done => {
             note_agreed(alloc, &given, None, opener, notes)
         }
-        Occasion::Compared(_) | Occasion::Part | Occasion::Plain => Ok(()),
+        Occasion::Compared(_) | Occasion::Differs(_) | Occasion::Part | Occasion::Plain => Ok(()),
         Occasion::Faulty(table, fault, columns) => {
             note_table(alloc, fault, columns, table, opener, notes)
         }

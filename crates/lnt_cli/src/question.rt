@@ -10,7 +10,7 @@ ghost use Rattle.lnt_cli.specs.Questions.{AnswersGood, AnswersGoodFile, AnswersJ
 ghost use Rattle.lnt_cli.specs.Stops.{AnswersUnreadable, BeginsFile, BeginsQuestion, IsCausedBy, IsCausedByEither, IsFileOf, IsFileOfBoth};
 ghost use Rattle.lnt_cli.specs.Stops.{IsLongWith, IsUnreadable, NamesOneOf, StopsIfRefused, TellsLong};
 
-use crate::check::check_table;
+use crate::check::{TableCheck, check_table};
 use crate::inputs::{Opened, Texts, of_file, open_judged, open_other};
 use crate::notes::{Answered, Occasion};
 use crate::stop::FileStop;
@@ -112,12 +112,16 @@ pub(crate) fn answer_file<'f, O: Files, W: Write>(
             all: false,
             partial,
             at_least,
+            any_copy,
             ..
         } => {
             let scope = Scope::of(partial);
-            check_table(
-                alloc, from, file, scope, at_least, &mut files, &mut other, out,
-            )
+            let asked = TableCheck {
+                any_copy,
+                scope,
+                at_least,
+            };
+            check_table(alloc, from, file, asked, &mut files, &mut other, out)
         }
         FileQuestion::Check { all: true, .. } => {
             answer_both(alloc, from, file, question, &mut files, &mut other, out)

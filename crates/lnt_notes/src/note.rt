@@ -8,7 +8,7 @@ ghost use Rattle.lnt_lines.specs.Indexed.{OfUnits};
 ghost use Rattle.lnt_io.specs.Prefixes.{AppendsPrefix};
 ghost use Rattle.lnt_notes.specs.Notes.{IsOneLine, TellsNotes, WritesNotes, line_of};
 
-use crate::ends::end_alike;
+use crate::ends::{end_alike, held_by_several};
 use crate::look::{file_look, look_of};
 use crate::markers::{GREATEST, may_be_marker};
 use crate::records::{Columns, column_at, line_after};
@@ -27,6 +27,10 @@ use lnt_wire::{Order, Reason};
 use std::alloc::{AllocError, Global};
 use std::fmt;
 use std::io::{BufReader, Write};
+
+// What the note says of a position that copies hold.
+const ANY_COPY: &str =
+    "several sequences hold this position, as where a linker folded functions or kept one of several copies; --any-copy takes the answer of each as right";
 
 /// The file and options that were given to judge a section.
 #[derive(Clone, Copy)]
@@ -340,6 +344,32 @@ fn note_copies<O: Files, N: Write>(
         alike.filter(|alike| *alike).map(|_| Note::Copies),
         notes,
     )
+}
+
+/// Prints the note to a position at which a table and the section differ, if copies are skipped there: which option takes their answers
+/// too. It fails as [`print_note`].
+pub fn note_difference<O: Files, N: Write>(
+    alloc: Global,
+    position: Position,
+    given: &Given<'_>,
+    opener: &O,
+    notes: &mut N,
+) -> Result<(), IoStop>
+    ensures { WritesNotes (N.contents notes.old) (N.contents notes.new) }
+{
+    if !given.skip_copies {
+        return Ok(());
+    }
+    let held = match section_again(alloc, given, opener) {
+        Some(mut source) => {
+            held_by_several(alloc, &mut source, given.order, given.dead, position)
+        }
+        None => None,
+    };
+    match held {
+        Some(true) => print_line_of(alloc, ANY_COPY, notes),
+        Some(false) | None => Ok(()),
+    }
 }
 
 // The section, to be read another time. `None` if that can't be done.

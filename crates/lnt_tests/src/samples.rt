@@ -5,5 +5,7 @@ mod units;
 mod worked;
 
 pub(crate) use streams::{FailsOnce, Narrow, Pieces, Reader, failing, whole};
-pub(crate) use units::{BELOW_ZERO, ENDLESS, LISTED, OF_NOTHING, OPEN, PLAIN, SHORT, TABLE, WIDE};
+pub(crate) use units::{
+    BELOW_ZERO, COPY, ENDLESS, LISTED, OF_NOTHING, OPEN, PLAIN, SHORT, TABLE, WIDE,
+};
 pub(crate) use worked::{LINE_STRINGS, WORKED, Worked};

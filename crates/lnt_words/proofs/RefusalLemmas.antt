@@ -71,14 +71,23 @@ one_flag rows name one other h k set = k.1 (h.0 set)
 
 -- ends are told of all positions alone
 pub no_ends : (rows : List Row) (all ends : Bool) → IsFlagGiven rows (codes "all") all → IsFlagGiven rows (codes "ends") ends
-    → IsTrue ends → (IsTrue all → ⊥) → (all' ends' partial : Bool) (at_least : ℕ) → AreCheckWords rows all' ends' partial at_least → ⊥
-no_ends rows all ends is_all has_ends set unset all' ends' partial at_least so =
+    → IsTrue ends → (IsTrue all → ⊥) → (all' ends' partial : Bool) (at_least : ℕ) (any_copy : Bool)
+    → AreCheckWords rows all' ends' partial at_least any_copy → ⊥
+no_ends rows all ends is_all has_ends set unset all' ends' partial at_least any_copy so =
     unset (one_flag rows (codes "all") all' all so.is_all is_all
     (so.ends_of_all (one_flag rows (codes "ends") ends ends' has_ends so.has_ends set)))
 
 -- and a percentage is one of a part
 pub no_part : (rows : List Row) (partial : Bool) → IsFlagGiven rows (codes "partial") partial
-    → IsSome (first_of (codes "at-least") rows) → (IsTrue partial → ⊥) → (all ends partial' : Bool) (at_least : ℕ)
-    → AreCheckWords rows all ends partial' at_least → ⊥
-no_part rows partial is_partial given unset all ends partial' at_least so =
+    → IsSome (first_of (codes "at-least") rows) → (IsTrue partial → ⊥) → (all ends partial' : Bool) (at_least : ℕ) (any_copy : Bool)
+    → AreCheckWords rows all ends partial' at_least any_copy → ⊥
+no_part rows partial is_partial given unset all ends partial' at_least any_copy so =
     unset (one_flag rows (codes "partial") partial' partial so.is_partial is_partial (so.of_partial given))
+
+-- and copies aren't asked of all positions
+pub no_copies : (rows : List Row) (all any_copy : Bool) → IsFlagGiven rows (codes "all") all → IsFlagGiven rows (codes "any-copy") any_copy
+    → IsTrue any_copy → IsTrue all → (all' ends partial : Bool) (at_least : ℕ) (any_copy' : Bool)
+    → AreCheckWords rows all' ends partial at_least any_copy' → ⊥
+no_copies rows all any_copy is_all is_any set both all' ends partial at_least any_copy' so =
+    so.copies_of_first (one_flag rows (codes "any-copy") any_copy any_copy' is_any so.is_any_copy set)
+    (one_flag rows (codes "all") all all' is_all so.is_all both)

@@ -82,7 +82,7 @@ subcommands =
     subcommand (codes "units") reading
     ∷ subcommand (codes "dump") (flag (codes "ops") ∷ flag (codes "rows") ∷ reading)
     ∷ subcommand (codes "check") (word (codes "TABLE") ∷ flag (codes "all") ∷ flag (codes "ends") ∷ flag (codes "partial")
-    ∷ option (codes "at-least") ∷ judging)
+    ∷ option (codes "at-least") ∷ flag (codes "any-copy") ∷ judging)
     ∷ subcommand (codes "verify") judging
     ∷ subcommand (codes "lookup") (several (new_rule (codes "ADDRESS")) ∷ option (codes "addresses") ∷ option (codes "op") ∷ judging)
     ∷ subcommand (codes "files") judging
@@ -188,14 +188,17 @@ abbrev pub IsPercentageIn : Option Text → ℕ → Type 0
 IsPercentageIn None percentage = percentage ≡ 0
 IsPercentageIn (Some word) percentage = IsPercentage word percentage
 
--- How a table is checked: ends are those of all positions, and a percentage is that of the positions at which the table answers.
-pub record AreCheckWords (rows : List Row) (all ends partial : Bool) (at_least : ℕ) : Type 0 where
+-- How a table is checked: ends are those of all positions, of which copies aren't asked, and a percentage is that of the positions at which
+-- the table answers.
+pub record AreCheckWords (rows : List Row) (all ends partial : Bool) (at_least : ℕ) (any_copy : Bool) : Type 0 where
   pub is_all : IsFlagGiven rows (codes "all") all
   pub has_ends : IsFlagGiven rows (codes "ends") ends
   pub ends_of_all : IsTrue ends → IsTrue all
   pub is_partial : IsFlagGiven rows (codes "partial") partial
   pub percentage : IsPercentageIn (first_of (codes "at-least") rows) at_least
   pub of_partial : IsSome (first_of (codes "at-least") rows) → IsTrue partial
+  pub is_any_copy : IsFlagGiven rows (codes "any-copy") any_copy
+  pub copies_of_first : IsTrue any_copy → IsTrue all → ⊥
 
 -- The question about a good section that the subcommand of this name asks.
 abbrev pub IsQuestion : Text → List Row → Question → Type 0
@@ -222,8 +225,9 @@ IsAskedIn name rows (Judge from question) = IsJudging rows from × IsQuestion na
 IsAskedIn name rows (JudgeWith from file (Lines op)) =
     (name ≡ codes "lookup") × IsJudging rows from × IsWord rows (codes "addresses") file.now
     × (all_of (codes "ADDRESS") rows ≡ None) × IsOp rows op
-IsAskedIn name rows (JudgeWith from file (Check all ends partial at_least)) =
-    (name ≡ codes "check") × IsJudging rows from × IsWord rows (codes "TABLE") file.now × AreCheckWords rows all ends partial at_least
+IsAskedIn name rows (JudgeWith from file (Check all ends partial at_least any_copy)) =
+    (name ≡ codes "check") × IsJudging rows from × IsWord rows (codes "TABLE") file.now
+    × AreCheckWords rows all ends partial at_least any_copy
 
 -- The subcommand that clap found, with its rows, asks for this request.
 pub record IsAskedOf (found : Option (Text × List Row)) (asked : Asked) : Type 0 where

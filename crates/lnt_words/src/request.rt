@@ -162,5 +162,8 @@ pub enum FileQuestion {
         partial: bool,
         /// How many of a hundred addresses of the section a table has to answer then.
         at_least: u64,
+        /// Whether the answer of any copy is right too, instead of only that of the sequence that is kept. This isn't asked of all
+        /// positions.
+        any_copy: bool,
     },
 }

@@ -29,7 +29,8 @@ class Findings:
         told = None
         if self.tally.count(WRONG) + self.tally.count(EXTRA):
             told = diagnosis.told_of(comparison, question, words)
-        self.cause, self.remedy = Causes(self.table_name, self.tally, told, comparison.is_of_this_build).found()
+        causes = Causes(self.table_name, self.tally, told, comparison.is_of_this_build, "--any-copy" in words)
+        self.cause, self.remedy = causes.found()
 
     def counts(self):
         tally = self.tally

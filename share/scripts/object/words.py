@@ -37,7 +37,7 @@ CHECK = [
     JSON,
 ]
 # The words that are of this program alone, but for symbolize: what they do, and the options that they have of those of check.
-OF_ANSWERS = {"--partial", "--at-least", "--all", "--ends"}
+OF_ANSWERS = {"--partial", "--at-least", "--all", "--ends", "--any-copy"}
 OF_BOTH = ("--any-build", "--base", "--map")
 GAPS = ("gaps", "Prints as CSV where a program has lines and its table or symbol file has no answer")
 REPORT = ("report", "Writes a page of HTML about a program and its tables or symbol files")
@@ -55,7 +55,7 @@ ELSEWHERE = {
 
 
 APART = "symbols"  # the word of linetab that isn't about a program
-EXCLUDING = [("--older", "--no-older"), ("--whole", "--partial")]
+EXCLUDING = [("--older", "--no-older"), ("--whole", "--partial"), ("--all", "--any-copy")]
 
 
 class Usage(Exception):

@@ -17,6 +17,12 @@ pub(crate) const PLAIN: [u8; 71] = unit!(0x43 0x29
     [1 1 8 1 0x2f 0x73 0 2 1 8 2 0x0b 2 0x61 0x2e 0x63 0 0 0x61 0x2e 0x63 0 0]
     [0 9 2 0 0x10 0 0 0 0 0 0 0x14 0x4b 2 2 0 1 1]);
 
+/// The unit of `PLAIN` with other lines, 5 and 7: its sequence is a copy behind that of `PLAIN`.
+pub(crate) const COPY: [u8; 71] = unit!(0x43 0x29
+    [1 1 1 0xfb 0x0e 0x0d 0 1 1 1 1 0 0 0 1 0 0 1]
+    [1 1 8 1 0x2f 0x73 0 2 1 8 2 0x0b 2 0x61 0x2e 0x63 0 0 0x61 0x2e 0x63 0 0]
+    [0 9 2 0 0x10 0 0 0 0 0 0 0x16 0x4c 2 2 0 1 1]);
+
 /// The unit of `PLAIN`, big-endian and in the 64-bit format.
 #[rattlefmt::skip]
 pub(crate) const WIDE: [u8; 83] = [

@@ -1,12 +1,12 @@
 //! Sections checked against tables that answer at a part of the positions.
-use crate::samples::{PLAIN, TABLE, whole};
+use crate::samples::{COPY, PLAIN, TABLE, whole};
 use crate::tables::lines::{OPTIONS, STRINGS};
 use lnt_io::Counted;
 use lnt_table::CheckedWithin::{Checked, Covered};
 use lnt_table::OfKind::{ByPath, Numbered};
 use lnt_table::TableNo::Differs;
 use lnt_table::Verdict::{No, Yes};
-use lnt_table::{CheckedWithin, Compared, Coverage, Scope, check_within};
+use lnt_table::{CheckedWithin, Compared, Coverage, Scope, check_any_copy, check_within};
 use std::alloc::Global;
 
 const NUMBERED: &[u8] = b"low,low_op,high,high_op,unit,file,line,column,is_stmt
@@ -35,10 +35,38 @@ const OTHER: &[u8] = b"low,high,path,line
 0x1004,0x1006,/s/a.C,4
 ";
 
+// A line of each of two copies.
+const MIXED: &[u8] = b"low,low_op,high,high_op,unit,file,line,column,is_stmt
+0x1000,0,0x1004,0,71,1,5,0,1
+0x1004,0,0x1006,0,0,1,4,0,1
+";
+
+const MIXED_PATHS: &[u8] = b"low,high,path,line
+0x1000,0x1004,/s/a.c,3
+0x1004,0x1006,/s/a.c,7
+";
+
 fn checked(alloc: Global, table: &[u8], scope: Scope) -> Option<CheckedWithin> {
     let mut section = Counted::new(whole(&PLAIN), 1000);
     let mut table = Counted::new(whole(table), 1000);
     check_within(alloc, &mut section, &STRINGS, &mut table, &OPTIONS, scope).ok()
+}
+
+// The same of two copies, each of which counts.
+fn checked_of_copies(alloc: Global, table: &[u8]) -> Option<CheckedWithin> {
+    let mut both = Vec::from_slice(alloc, &PLAIN).ok()?;
+    both.extend_from_slice(&COPY).ok()?;
+    let mut section = Counted::new(whole(&both), 1000);
+    let mut table = Counted::new(whole(table), 1000);
+    check_any_copy(
+        alloc,
+        &mut section,
+        &STRINGS,
+        &mut table,
+        &OPTIONS,
+        Scope::All,
+    )
+    .ok()
 }
 
 // Whether the table is right wherever it answers, which is at so many of the section's six addresses.
@@ -98,4 +126,15 @@ fn tables_checked_at_all_positions(rt: HostRuntime) {
     assert!(rt; matches!(paths, Some(Checked(ByPath(Compared::Differs(_))))));
     let no_table = checked(alloc, b"low\n", Scope::Answered);
     assert!(rt; matches!(no_table, Some(Checked(ByPath(Compared::Fault(_))))));
+}
+
+#[test]
+fn tables_of_copies(rt: HostRuntime) {
+    let alloc = rt.alloc();
+    let mixed = checked_of_copies(alloc, MIXED);
+    assert!(rt; matches!(mixed, Some(Checked(Numbered(Yes)))));
+    let paths = checked_of_copies(alloc, MIXED_PATHS);
+    assert!(rt; matches!(paths, Some(Checked(ByPath(Compared::Same)))));
+    let late = checked_of_copies(alloc, LATE);
+    assert!(rt; matches!(late, Some(Checked(Numbered(No(Differs { .. }))))));
 }

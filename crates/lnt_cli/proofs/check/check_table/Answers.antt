@@ -10,14 +10,14 @@ returns-in_err-of_file-clause-stopped g c =
     stopped_by _ _ c.print_line-printed.result c.from_residual-in_err-of_file.result
     (so_stopped c.from_residual-in_err-of_file.result _ c.in_err-of_file.ensures.err) c.print_line-printed.ensures.prefix
     (λ prefix. inr (record {
-      whole = checked_line c.args.at_least checked;
-      ending = checked_status c.args.at_least checked;
+      whole = checked_line c.args.asked.at_least checked;
+      ending = checked_status c.args.asked.at_least checked;
       is_end = record {
         checked = checked;
         is_true = c.in_ok-checked.ensures.checked;
         is_true_of_section = c.in_ok-checked.ensures.of_section;
         of_scope = c.in_ok-checked.ensures.of_scope;
-        printed = appends_known _ (checked_line c.args.at_least checked);
+        printed = appends_known _ (checked_line c.args.asked.at_least checked);
         status_is = refl;
       };
       prefix = prefix;
