@@ -330,6 +330,21 @@ def reversed_symbol_lines(count):
     return symbols(b"FUNC 0 %x 0 f\n" % count, *(b"%x 1 1 0\n" % place for place in range(count - 1, -1, -1)))
 
 
+def symbol_lines_and_one_below(count):
+    """Line records that rise, but for the last one."""
+    lines = (b"%x 1 1 0\n" % place for place in range(1, count))
+    return symbols(b"FUNC 0 %x 0 f\n" % count, *lines, b"0 1 1 0\n")
+
+
+def overlapping_symbol_lines(count):
+    """Line records of which each overlaps its neighbours, in falling order; every second counts."""
+    return symbols(b"FUNC 0 %x 0 f\n" % (2 * count), *(b"%x 3 1 0\n" % (2 * place) for place in range(count, 0, -1)))
+
+
+def empty_lines(count):
+    return symbols(b"\n" * count)
+
+
 def reversed_functions(count):
     return symbols(b"FILE 0 /a\n", *(b"FUNC %x 1 0 f\n%x 1 1 0\n" % (place, place) for place in range(count, 0, -1)))
 
@@ -524,17 +539,20 @@ EVERY = {
     "many units": (section(units), 20_000),
 }
 # Symbol files. Where their lines have some ten bytes, more is held for each byte, and more again where line records don't rise.
-SHORT, FALLING = Growth(memory=Memory(times(9))), Growth(memory=Memory(times(14)))
+SHORT, FALLING = Growth(memory=Memory(times(5))), Growth(memory=Memory(times(8)))
 SYMBOLS = {
     "line records of a long path": (symbol_lines, 20_000, Memory()),
     "line records of two long paths": (symbol_lines_of_two_files, 20_000, Memory()),
-    "short line records": (short_symbol_lines, 1_000_000, SHORT),
+    "short line records": (short_symbol_lines, 1_000_000, Growth()),
+    "empty lines": (empty_lines, 4_000_000, Growth()),
     "line records in falling order": (reversed_symbol_lines, 400_000, FALLING),
-    "functions in falling order": (reversed_functions, 200_000, SHORT),
-    "functions that overlap": (overlapping_functions, 200_000, SHORT),
-    "functions in another": (overlapping_one, 200_000, SHORT),
+    "line records that rise but for the last": (symbol_lines_and_one_below, 400_000, FALLING.memory),
+    "line records that overlap": (overlapping_symbol_lines, 400_000, FALLING),
+    "functions in falling order": (reversed_functions, 200_000, Growth()),
+    "functions that overlap": (overlapping_functions, 200_000, Growth()),
+    "functions in another": (overlapping_one, 200_000, Growth()),
     "many files": (symbol_files, 200_000, SHORT),
-    "many files of one number": (one_symbol_file, 400_000, SHORT),
+    "many files of one number": (one_symbol_file, 400_000, Growth()),
     "a long line": (long_symbol_line, 8_000_000, Growth()),
     "a long name": (long_symbol_name, 4_000_000, Growth()),
     "a long number": (long_symbol_number, 8_000_000, Memory(status=1)),

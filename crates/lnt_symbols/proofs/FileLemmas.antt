@@ -1,8 +1,7 @@
 -- Records, read line by line.
-use Rattle.std.proofs.Common.{◌≡◌, ◌∙◌, ℕ, ◌+◌, Bool, true, false, ap, append_assoc, subst, sym, List, [], ◌∷◌, ◌++◌, length, refl}
-use Rattle.std.proofs.Common.{Option, Some, None, Ok, Err}
+use Rattle.std.proofs.Common.{◌≡◌, ◌∙◌, ℕ, ◌+◌, Bool, true, false, ap, append_assoc, subst, sym, List, [], ◌∷◌, ◌++◌, refl}
+use Rattle.std.proofs.Common.{Ok, Err}
 use Rattle.std.specs.Prelude.{Result, not, if◌then◌else◌}
-use Rattle.std.specs.Borrow.{Bor}
 use Rattle.lnt_symbols.specs.BreakpadLines.{lines_of, record_of, RecordSaid, Said}
 use Rattle.lnt_symbols.specs.Stepping.{SaysFirst}
 use Rattle.lnt_symbols.specs.declared.fault.LineReason.{LineReason}
@@ -15,11 +14,6 @@ use Rattle.lnt_symbols.specs.declared.fault.SymbolFault.TheVariants.{Line}
 abbrev pub joined : List RecordSaid → Result (List RecordSaid) SymbolFault → Result (List RecordSaid) SymbolFault
 joined done (Err fault) = Err fault
 joined done (Ok records) = Ok (done ++ records)
-
--- how much is left to read
-abbrev pub left_length : Option (Bor (List ℕ)) → ℕ
-left_length None = 0
-left_length (Some rest) = length rest.now + 1
 
 one_more : (done : List RecordSaid) (said : RecordSaid) (fault : SymbolFault) (b : Bool) (r : Result (List RecordSaid) SymbolFault)
     → b ≡ true

@@ -1,17 +1,18 @@
 -- Ranges that are kept.
 use Rattle.std.proofs.Common.{◌≡◌, ℕ, ◌+◌, ◌<◌, ◌≤◌, Bool, true, false, List, [], ◌∷◌, ◌++◌, Option, Some, None, refl, sym, ap, ◌∙◌, arith}
-use Rattle.std.proofs.Common.{All, AllPairs, Contains, map}
+use Rattle.std.proofs.Common.{All, AllPairs, Contains, get_or, length, subst, take}
+use Rattle.std.specs.BTreeMap.{BTreeMap}
 use Rattle.std.specs.Prelude.{nat_lt, ◌&&◌, not, if◌then◌else◌}
 use Rattle.std.specs.List.{list_any, AllByRecursion}
 use Rattle.std.proofs.lemmas.Bool.{and_parts}
 use Rattle.std.proofs.lemmas.Bool.Decides.{nat_tests}
-use Rattle.std.proofs.lemmas.List.{map-append}
+use Rattle.std.proofs.lemmas.List.{take_more}
 use Rattle.std.proofs.lemmas.List.Elements.{All-cons, All-contains_itself, All-nil, All-weaker}
 use Rattle.lnt_symbols.specs.BreakpadLines.{Range}
 use Rattle.lnt_spans.proofs.EachTwoLaws.{pairs_append, pairs_cons, pairs_nil}
 use Rattle.lnt_symbols.specs.BreakpadAnswers.{end_of, is_kept, is_sound, kept, kept_after, meet}
-use Rattle.lnt_symbols.proofs.TreeLemmas.{any_map, from_not, not_one}
-use Rattle.lnt_symbols.specs.Stepping.{IsAbove, IsTheLast}
+use Rattle.lnt_symbols.proofs.TreeLemmas.{from_not, not_one}
+use Rattle.lnt_symbols.specs.Stepping.{AreThose, IsAbove, IsTheLast, more_kept}
 
 -- ---- ranges above all kept ones
 
@@ -54,6 +55,39 @@ ends_more range (Some last) more before x ends above sound end =
     let some : 0 < (range x).size = grind (arith, nat_tests) in
     ends_grow range last more before x ends (omega (arith, end, some, above)) (omega (arith, end))
 
+-- ---- ranges that come one by one
+
+-- a range that isn't sound isn't kept
+pub not_sound : (those : List Range) (r : Range) → is_sound r ≡ false → is_kept (λ y. y) those r ≡ false
+not_sound those r e = rw e refl
+
+-- the kept ones of one range more
+pub kept_more : (before xs : List Range) (r : Range)
+    → kept_after (λ y. y) before (xs ++ r ∷ []) ≡ more_kept (kept_after (λ y. y) before xs) r
+kept_more before [] r = refl
+kept_more before (x ∷ xs) r = kept_more (if is_kept (λ y. y) before x then before ++ x ∷ [] else before) xs r
+
+-- the kept ones of the first ranges, and of one more
+pub kept_take : (xs : List Range) (i : ℕ) (d : Range) → i < length xs
+    → kept (λ y. y) (take (i + 1) xs) ≡ more_kept (kept (λ y. y) (take i xs)) (get_or xs i d)
+kept_take xs i d lt = ap (kept (λ y. y)) (take_more xs i d lt) ∙ kept_more [] (take i xs) (get_or xs i d)
+
+-- what begins above all kept ones, and is sound, is kept too
+pub kept_rising : (rising grown those : List Range) (last : Option ℕ) (tree : Option (BTreeMap ℕ ℕ)) (more : ℕ) (r : Range)
+    → grown ≡ rising ++ r ∷ [] → tree ≡ None → AreThose rising last tree those → IsAbove last r → is_sound r ≡ true → more + 1 ≡ end_of r
+    → (true ≡ is_kept (λ y. y) those r) × AreThose grown (Some more) tree (more_kept those r)
+kept_rising rising grown those last (Some tree) more r longer none h above sound end = absurd cc
+kept_rising rising grown those last None more r longer none h above sound end =
+    let is : is_kept (λ y. y) those r ≡ true = kept_above (λ y. y) last those r h.1 above ∙ sound in
+    let kept_too : more_kept those r ≡ those ++ r ∷ [] = rw is refl in (
+      sym is,
+      subst (AreThose grown (Some more) None) (sym kept_too) (
+        longer ∙ ap (λ ys. ys ++ r ∷ []) h.0,
+        ends_more (λ y. y) last more those r h.1 above sound end,
+        kept_more [] those r ∙ (ap (λ ys. more_kept ys r) h.2 ∙ kept_too),
+      ),
+    )
+
 -- ---- no two kept ranges have an address in common
 
 abbrev pub Apart : {X : Type 0} → (X → Range) → X → X → Type 0
@@ -84,30 +118,3 @@ kept_after_apart range before (x ∷ xs) h =
 
 pub kept_apart : {X : Type 0} (range : X → Range) (xs : List X) → AllPairs (Apart range) (kept range xs)
 kept_apart range xs = kept_after_apart range [] xs (pairs_nil (Apart range))
-
--- ---- kept items of a list that was made of another
-
-more_map : {X Y : Type 0} (g : X → Y) (range : Y → Range) (before : List X) (x : X)
-    → (if is_kept range (map g before) (g x) then map g before ++ g x ∷ [] else map g before)
-    ≡ map g (if is_kept (λ y. range (g y)) before x then before ++ x ∷ [] else before)
-more_map g range before x = by_test (is_kept (λ y. range (g y)) before x) refl
-  where
-    same : is_kept range (map g before) (g x) ≡ is_kept (λ y. range (g y)) before x
-    same = ap (λ b. is_sound (range (g x)) && not b) (any_map g (λ y. meet (range y) (range (g x))) before)
-
-    by_test : (t : Bool) → is_kept (λ y. range (g y)) before x ≡ t
-        → (if is_kept range (map g before) (g x) then map g before ++ g x ∷ [] else map g before)
-        ≡ map g (if is_kept (λ y. range (g y)) before x then before ++ x ∷ [] else before)
-    by_test false e = rw (same ∙ e) (rw e refl)
-    by_test true e = rw (same ∙ e) (rw e (sym (map-append g before (x ∷ []))))
-
-kept_after_map : {X Y : Type 0} (g : X → Y) (range : Y → Range) (before xs : List X)
-    → kept_after range (map g before) (map g xs) ≡ map g (kept_after (λ x. range (g x)) before xs)
-kept_after_map g range before [] = refl
-kept_after_map g range before (x ∷ xs) =
-    ap (λ l. kept_after range l (map g xs)) (more_map g range before x)
-    ∙ kept_after_map g range (if is_kept (λ y. range (g y)) before x then before ++ x ∷ [] else before) xs
-
-pub kept_map : {X Y : Type 0} (g : X → Y) (range : Y → Range) (xs : List X)
-    → kept range (map g xs) ≡ map g (kept (λ x. range (g x)) xs)
-kept_map g range xs = kept_after_map g range [] xs

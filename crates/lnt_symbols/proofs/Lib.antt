@@ -4,4 +4,5 @@ pub mod FileLemmas
 pub mod KeptLemmas
 pub mod PieceLemmas
 pub mod PlainLemmas
+pub mod ReadingLemmas
 pub mod TreeLemmas

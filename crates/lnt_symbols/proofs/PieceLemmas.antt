@@ -8,7 +8,7 @@ use Rattle.std.specs.Option.{option_or}
 use Rattle.std.specs.Ordering.{is_lt, nat_cmp}
 use Rattle.std.proofs.lemmas.Bool.Decides.{nat_tests}
 use Rattle.std.proofs.lemmas.List.Elements.{All-tail, All-weaker}
-use Rattle.std.proofs.lemmas.List.Folds.{find-append, flat_map-map}
+use Rattle.std.proofs.lemmas.List.Folds.{find-append}
 use Rattle.std.proofs.lemmas.List.Sorted.{All-permutation, Contains-permutation}
 use Rattle.std.specs.Io.KnownBytes.{Appends}
 use Rattle.lnt_compare.specs.Canonical.{BeginsPathTable, IsCanonicalPathTable}
@@ -19,8 +19,6 @@ use Rattle.lnt_spans.proofs.EachTwoLaws.{pairs_from_each_two, pairs_head, pairs_
 use Rattle.lnt_spans.specs.declared.position.Position.{Position}
 use Rattle.lnt_spans.specs.SpanKinds.{is_held}
 use Rattle.lnt_spans.specs.Spans.{AreInOrder, IsOfInstructions, number_spans}
-use Rattle.lnt_symbols.specs.declared.breakpad.function.Function.{Function}
-use Rattle.lnt_symbols.specs.declared.breakpad.record.Record.{Record}
 use Rattle.lnt_symbols.specs.declared.piece.Piece.{Piece}
 use Rattle.lnt_symbols.specs.BreakpadLines.{LineRecord, Range, RecordSaid}
 use Rattle.lnt_symbols.specs.BreakpadAnswers.{answer_at, FunctionSaid, functions_of, holds, kept, meet, name_in}
@@ -28,23 +26,12 @@ use Rattle.lnt_symbols.specs.Pieces.{AnswerSo, AreRising, HasTable, cut_high, cu
 use Rattle.lnt_symbols.specs.Pieces.{pieces_in, pieces_of, PiecesApart}
 use Rattle.lnt_compare.proofs.PathWrittenLaws.{one_path_table}
 use Rattle.lnt_symbols.specs.Laws.{OneTable}
-use Rattle.lnt_symbols.specs.Stepping.{function_said_of, said_of}
 use Rattle.lnt_symbols.specs.SymbolTables.{answers_in_table, loaded_at}
 use Rattle.lnt_symbols.proofs.CutLemmas.{cut_in, filled, in_table, pieces_apart}
-use Rattle.lnt_symbols.proofs.KeptLemmas.{Apart, kept_apart, kept_map}
+use Rattle.lnt_symbols.proofs.KeptLemmas.{Apart, kept_apart}
 
 pub not_lower : (a b : Piece) → is_lt (nat_cmp b.low a.low) ≡ false → a.low ≤ b.low
 not_lower a b e = grind (arith, nat_tests)
-
--- ---- the pieces of the functions that were read
-
-pub pieces_mapped : (base : ℕ) (records : List Record) (functions : List Function)
-    → map (function_said_of records) functions ≡ functions_of (map said_of records)
-    → flat_map (λ f. pieces_in base (function_said_of records f)) (kept (λ f. f.range) functions) ≡ pieces_of base (map said_of records)
-pieces_mapped base records functions e =
-    sym (flat_map-map (pieces_in base) (function_said_of records) (kept (λ f. f.range) functions))
-    ∙ (ap (flat_map (pieces_in base)) (sym (kept_map (function_said_of records) (λ f. f.range) functions))
-    ∙ ap (λ fs. flat_map (pieces_in base) (kept (λ f. f.range) fs)) e)
 
 -- ---- what is found
 

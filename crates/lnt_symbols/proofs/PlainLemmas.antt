@@ -1,7 +1,7 @@
 -- Line records, each byte of which is looked at once.
 use Rattle.std.proofs.Common.{◌≡◌, ◌∙◌, ℕ, ◌+◌, ◌-◌, ◌*◌, ◌/◌, ◌%◌, ◌^◌, ◌<◌, ◌≤◌, Bool, true, false, List, [], ◌∷◌, ◌++◌, length}
 use Rattle.std.proofs.Common.{Option, Some, None, Ok, Err, refl, sym, ap, subst, arith, append_assoc, take}
-use Rattle.std.specs.Prelude.{codes, nat_lt, ◌==◌, ◌&&◌, ◌||◌, not, if◌then◌else◌}
+use Rattle.std.specs.Prelude.{codes, nat_lt, ◌==◌, ◌&&◌, ◌||◌, if◌then◌else◌}
 use Rattle.std.specs.Cmp.Lexicographic.{pointwise}
 use Rattle.std.specs.List.{list_all, list_any}
 use Rattle.std.proofs.Math.Nat.{pow-le-pow_right}
@@ -17,7 +17,7 @@ use Rattle.lnt_symbols.specs.BreakpadLines.{begins, cut, decimal, field, hexadec
 use Rattle.lnt_symbols.specs.BreakpadLines.{line_record_of, line_said, LineRecord, lines_from, lines_of, Range, range_of, record_of}
 use Rattle.lnt_symbols.specs.BreakpadLines.{Said, then_say}
 use Rattle.lnt_symbols.specs.declared.fault.LineReason.TheVariants.{NotARecord}
-use Rattle.lnt_symbols.specs.Stepping.{HasNumber, IsFirstLine, number_up_to, SaysFirst}
+use Rattle.lnt_symbols.specs.Stepping.{HasNumber, IsFirstLine, number_up_to}
 
 -- ---- the digits of a number
 

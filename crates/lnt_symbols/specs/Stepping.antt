@@ -1,6 +1,6 @@
 -- What the values of the code say.
 use Rattle.std.specs.Prelude.{◌≡◌, ◌+◌, ◌-◌, ◌*◌, ◌<◌, ◌≤◌, ◌==◌, nat_lt, ℕ, Bool, true, if◌then◌else◌, List, [], ◌∷◌, ◌++◌, length, Option}
-use Rattle.std.specs.Prelude.{Some, None, Ok, Err, IsSome, Contains, drop, map}
+use Rattle.std.specs.Prelude.{Some, None, Ok, Err, IsSome, Contains}
 use Rattle.std.specs.BTreeMap.{BTreeMap, get}
 use Rattle.std.specs.List.{AllByRecursion, list_all}
 use Rattle.std.specs.Ordering.{nat_cmp}
@@ -8,12 +8,15 @@ use Rattle.std.specs.Borrow.{Bor}
 use Rattle.lnt_text.specs.Digits.{digit_value}
 use Rattle.lnt_symbols.specs.BreakpadLines.{is_hexadecimal_digit, LineRecord, lines_of, Range, record_of, RecordSaid, Said}
 use Rattle.lnt_symbols.specs.BreakpadLines.{file_said, function_said, line_said, public_said, nothing_said}
-use Rattle.lnt_symbols.specs.BreakpadAnswers.{end_of, FunctionSaid, lines_before, records_of}
-use Rattle.lnt_symbols.specs.declared.breakpad.file.RecordsStop.{RecordsStop}
-use Rattle.lnt_symbols.specs.declared.breakpad.file.RecordsStop.TheVariants.{Fault, Memory}
-use Rattle.lnt_symbols.specs.declared.breakpad.function.Function.{Function as CodeFunction}
+use Rattle.lnt_symbols.specs.BreakpadAnswers.{end_of, is_kept, kept, name_in, records_of}
+use Rattle.lnt_symbols.specs.declared.breakpad.file.ReadingStop.{ReadingStop}
+use Rattle.lnt_symbols.specs.declared.breakpad.file.ReadingStop.TheVariants.{Fault, Memory}
+use Rattle.lnt_symbols.specs.declared.breakpad.kept.KeptRanges.{KeptRanges}
+use Rattle.lnt_symbols.specs.declared.breakpad.reading.Reading.{Reading}
 use Rattle.lnt_symbols.specs.declared.breakpad.record.Record.{Record}
 use Rattle.lnt_symbols.specs.declared.breakpad.record.Record.TheVariants.{File, Function, Line, Public, Nothing}
+use Rattle.lnt_symbols.specs.declared.piece.Piece.{Piece}
+use Rattle.lnt_symbols.specs.Pieces.{cut_line, pieces_of}
 
 abbrev pub said_of : Record → RecordSaid
 said_of (File number name) = file_said number name.now
@@ -27,8 +30,13 @@ abbrev pub lines_left : Option (Bor (List ℕ)) → List (List ℕ)
 lines_left None = []
 lines_left (Some rest) = lines_of rest.now
 
--- Why there are no records. Want of memory says nothing of the file.
-abbrev pub IsStop : List ℕ → RecordsStop → Type 0
+-- how much is left to read
+abbrev pub left_length : Option (Bor (List ℕ)) → ℕ
+left_length None = 0
+left_length (Some rest) = length rest.now + 1
+
+-- Why a file wasn't read. Want of memory says nothing of the file.
+abbrev pub IsStop : List ℕ → ReadingStop → Type 0
 IsStop bytes (Fault fault) = records_of bytes ≡ Err fault
 IsStop bytes Memory = Unit {0}
 
@@ -57,11 +65,20 @@ pub record AreInTree (tree : BTreeMap ℕ ℕ) (those : List Range) : Type 0 whe
   pub filled : (first last : ℕ) → last_at tree first ≡ Some last → first ≤ last
   pub apart : (first last other : ℕ) → last_at tree first ≡ Some last → IsSome (last_at tree other) → first < other → last < other
 
--- ---- functions and names
+-- the kept ranges, after one more
+abbrev pub more_kept : List Range → Range → List Range
+more_kept those range = if is_kept (λ y. y) those range then those ++ range ∷ [] else those
 
--- what a function says of its file's records
-abbrev pub function_said_of : List Record → CodeFunction → FunctionSaid
-function_said_of records f = record { range = f.range; lines = lines_before (map said_of (drop f.next records)) }
+-- Without a tree these are the ranges, all of which are kept, and this is their last address; a tree has those ranges.
+abbrev pub AreThose : List Range → Option ℕ → Option (BTreeMap ℕ ℕ) → List Range → Type 0
+AreThose rising last None those = (rising ≡ those) × IsTheLast (λ y. y) last those × (kept (λ y. y) those ≡ those)
+AreThose rising last (Some tree) those = AreInTree tree those
+
+-- Those are the kept ranges.
+abbrev pub HasKept : KeptRanges → List Range → Type 0
+HasKept ranges those = AreThose ranges.rising.items ranges.last ranges.tree those
+
+-- ---- names
 
 -- a name that is known, else another
 abbrev pub known_or : Option (Bor (List ℕ)) → List ℕ → List ℕ
@@ -74,6 +91,41 @@ name_or names number rest = known_or (get nat_cmp names number) rest
 -- the name with a number, or nothing
 abbrev pub name_at : BTreeMap ℕ (Bor (List ℕ)) → ℕ → List ℕ
 name_at names number = name_or names number []
+
+-- ---- records, taken one by one
+
+-- The pieces of records that are left.
+--     functions   the ranges of the kept functions before them
+--     open_one    the range of the function that goes on, if it's kept, and those of its kept line records
+abbrev pub pieces_after : ℕ → List Range → Option (Range × List Range) → List RecordSaid → List Piece
+pieces_after base functions open_one [] = []
+pieces_after base functions open_one (function_said range ∷ records) =
+    if is_kept (λ y. y) functions range then pieces_after base (functions ++ range ∷ []) (Some (range, [])) records
+    else pieces_after base functions None records
+pieces_after base functions open_one (line_said line ∷ records) = elim open_one [
+  | None ↦ pieces_after base functions None records
+  | Some parts ↦ if is_kept (λ y. y) parts.1 line.range
+      then cut_line base parts.0 line ++ pieces_after base functions (Some (parts.0, parts.1 ++ line.range ∷ [])) records
+      else pieces_after base functions (Some parts) records
+]
+pieces_after base functions open_one (public_said ∷ records) = pieces_after base functions None records
+pieces_after base functions open_one (file_said n name ∷ records) = pieces_after base functions open_one records
+pieces_after base functions open_one (nothing_said ∷ records) = pieces_after base functions open_one records
+
+abbrev pub with_lines : Option Range → List Range → Option (Range × List Range)
+with_lines None lines = None
+with_lines (Some function) lines = Some (function, lines)
+
+-- This is what the records come to.
+pub record HasTaken (base : ℕ) (done : List RecordSaid) (reading : Reading) : Type 0 where
+  pub functions : List Range
+  pub lines : List Range
+  pub kept_functions : HasKept reading.functions functions
+  pub kept_lines : HasKept reading.lines lines
+  pub pieces : (later : List RecordSaid) → pieces_of base (done ++ later)
+      ≡ reading.pieces.items ++ pieces_after base functions (with_lines reading.function lines) later
+  pub names : (later : List RecordSaid) (number : ℕ) → name_or reading.names.names number (name_in later number)
+      ≡ name_in (done ++ later) number
 
 -- ---- the first line of a text
 

@@ -2,7 +2,6 @@
 
 mod fields;
 mod file;
-mod function;
 mod kept;
 mod line;
 mod names;
@@ -10,6 +9,7 @@ mod pieces;
 mod plain;
 mod print;
 mod range;
+mod reading;
 mod record;
 
 pub(crate) use print::print_breakpad;

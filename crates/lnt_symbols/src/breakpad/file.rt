@@ -1,61 +1,73 @@
 //! Reads the records of a Breakpad file.
-ghost use Rattle.std.specs.Prelude.{◌≡◌, ◌<◌, ◌≤◌, ℕ, List, [], ◌∷◌, ◌++◌, true, length, map, Ok, Err, IfOk, IfErr, IfSome, MatchResult};
-ghost use Rattle.lnt_symbols.specs.Stepping.{IsStop, SaysFirst, lines_left, said_of};
-ghost use Rattle.lnt_symbols.specs.BreakpadLines.{lines_from, lines_of};
-ghost use Rattle.lnt_symbols.specs.declared.breakpad.file.RecordsStop.TheVariants.{Fault};
+ghost use Rattle.std.specs.Prelude.{◌≡◌, ◌<◌, ◌≤◌, ℕ, List, [], ◌∷◌, ◌++◌, true, false, length, Ok, Err, IfOk, IfErr, IfSome, MatchResult};
+ghost use Rattle.lnt_symbols.specs.Stepping.{HasTaken, IsStop, SaysFirst, left_length, lines_left, said_of};
+ghost use Rattle.lnt_symbols.specs.BreakpadLines.{lines_from, lines_of, RecordSaid};
+ghost use Rattle.lnt_symbols.specs.declared.breakpad.file.ReadingStop.TheVariants.{Fault};
 ghost use Rattle.lnt_symbols.specs.declared.fault.SymbolFault.TheVariants.{Line};
-ghost use Rattle.lnt_symbols.specs.BreakpadAnswers.{is_inside, may_follow, records_of};
+ghost use Rattle.lnt_symbols.specs.BreakpadAnswers.{is_inside, may_follow, records_from, records_of};
 
 use crate::breakpad::line::{has_zero, record_of};
 use crate::breakpad::plain::plain_line;
+use crate::breakpad::reading::Reading;
 use crate::breakpad::record::Record;
 use crate::fault::{LineReason, SymbolFault};
-use std::alloc::Global;
+use std::alloc::{AllocError, Global};
 
-// Why no records were read.
+/// Why a file wasn't read.
 #[derive(Clone, Copy)]
-pub(crate) enum RecordsStop {
-    // The first fault of the file.
+pub(crate) enum ReadingStop {
+    /// The first fault of the file.
     Fault(SymbolFault),
-    // Memory ran out.
+    /// Memory ran out.
     Memory,
 }
 
-// Reads the records of a file, but for its first line.
-#[tactic(auto, using(crate::proofs::FileLemmas::first_step, crate::proofs::FileLemmas::faulty, crate::proofs::FileLemmas::first_refused))]
-pub(crate) fn read_records<'a>(
+/// Reads the records of a file whose address 0 is loaded at `base`.
+pub(crate) fn read_file<'a>(
     alloc: Global,
     bytes: &'a [u8],
-) -> Result<Vec<Record<'a>>, RecordsStop>
-    ensures ok { IfOk result (λ records. records_of bytes.now ≡ Ok (map said_of records.items)) }
+    base: u64,
+) -> Result<Reading<'a>, ReadingStop>
+    ensures ok { IfOk result (λ reading. (records : List RecordSaid) × (records_of bytes.now ≡ Ok records)
+        × HasTaken base records reading) }
     ensures err { IfErr result (IsStop bytes.now) }
 {
-    let (line, mut rest) = next_line(bytes);
+    let mut rest = first_line(bytes)?;
+    let mut reading = Reading::new(alloc);
+    let mut number = 1;
+    let mut inside = false;
+    while let Some(left) = rest {
+        number += 1;
+        let (said, after) = match next_record(left) {
+            Ok(found) => found,
+            Err(reason) => return Err(fault_in(number, reason)),
+        };
+        if !may_follow(inside, &said) {
+            return Err(fault_in(number, LineReason::NoFunction));
+        }
+        inside = is_inside(inside, &said);
+        match reading.take(alloc, said, base) {
+            Ok(()) => rest = after,
+            Err(AllocError) => return Err(ReadingStop::Memory),
+        }
+    }
+    Ok(reading)
+}
+
+// What stands after the end of the first line, if it has one.
+fn first_line<'a>(bytes: &'a [u8]) -> Result<Option<&'a [u8]>, ReadingStop>
+    ensures ok { IfOk result (λ rest. records_of bytes.now ≡ records_from 2 false (lines_left rest)) }
+    ensures err { IfErr result (IsStop bytes.now) }
+    ensures shorter { IfOk result (λ rest. left_length rest ≤ length bytes.now) }
+{
+    let (line, rest) = next_line(bytes);
     if !line.starts_with(b"MODULE ") {
         return Err(fault_in(1, LineReason::NotASymbolFile));
     }
     if has_zero(line) {
         return Err(fault_in(1, LineReason::ZeroByte));
     }
-    let mut records = Vec::new(alloc);
-    let mut number = 1;
-    let mut inside = false;
-    while let Some(left) = rest {
-        number += 1;
-        let (record, after) = match next_record(left) {
-            Ok(found) => found,
-            Err(reason) => return Err(fault_in(number, reason)),
-        };
-        if !may_follow(inside, &record) {
-            return Err(fault_in(number, LineReason::NoFunction));
-        }
-        inside = is_inside(inside, &record);
-        if records.push(record).is_err() {
-            return Err(RecordsStop::Memory);
-        }
-        rest = after;
-    }
-    Ok(records)
+    Ok(rest)
 }
 
 // What the first line says, and what stands after its end, if it has one.
@@ -134,8 +146,8 @@ fn is_inside(inside: bool, said: &Record<'_>) -> bool
 }
 
 // A line at fault.
-fn fault_in(number: u64, reason: LineReason) -> RecordsStop
+fn fault_in(number: u64, reason: LineReason) -> ReadingStop
     ensures { result ≡ Fault (Line number reason) }
 {
-    RecordsStop::Fault(SymbolFault::Line(number, reason))
+    ReadingStop::Fault(SymbolFault::Line(number, reason))
 }

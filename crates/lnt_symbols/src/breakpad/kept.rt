@@ -1,39 +1,84 @@
 //! Which ranges are kept: each that is sound and has no address in common with a kept one before it.
-ghost use Rattle.std.specs.Prelude.{◌≡◌, ◌++◌, ◌∷◌, [], List, if◌then◌else◌, IfOk, IfSome, OnOk, map, true};
+ghost use Rattle.std.specs.Prelude.{◌≡◌, ◌++◌, ◌∷◌, [], List, IfOk, OnOk, true};
 ghost use Rattle.std.specs.List.{list_any};
 ghost use Rattle.lnt_symbols.specs.BreakpadAnswers.{is_kept, is_sound, kept, meet};
-ghost use Rattle.lnt_symbols.specs.Stepping.{AreInTree, IsAbove, IsTheLast};
+ghost use Rattle.lnt_symbols.specs.Stepping.{AreInTree, IsAbove, more_kept};
 ghost use Rattle.lnt_symbols.specs.declared.breakpad.record.Range as spec;
 
-use crate::breakpad::range::{Ranged, is_sound, last_of};
+use crate::breakpad::range::{is_sound, last_of};
 use crate::breakpad::record::Range;
 use std::alloc::{AllocError, Global};
 use std::collections::BTreeMap;
 
-/// Those whose ranges are kept, in their order. Where each begins above all before it, it takes time in proportion to their number, else
-/// its product with the logarithm.
-pub(crate) fn kept<X: Ranged + Copy>(alloc: Global, items: &[X]) -> Result<Vec<X>, AllocError>
-    ensures { IfOk result (λ those. those.items ≡ kept X.range items.now) }
-{
-    match kept_in_order(alloc, items)? {
-        Some(those) => Ok(those),
-        None => kept_by_tree(alloc, items),
-    }
+/// The kept ones of ranges that come one by one: 16 bytes for each, or an entry of a tree from the first on that is sound and doesn't
+/// begin above all kept ones before it. Up to there a range takes constant time, and then the logarithm of their number.
+#[derive(Drop)]
+pub(crate) struct KeptRanges {
+    // The kept ranges, if there is no tree.
+    pub(crate) rising: Vec<Range>,
+    // The last address of these.
+    pub(crate) last: Option<u64>,
+    // The last address of each kept range at its first.
+    pub(crate) tree: Option<BTreeMap<u64, u64>>,
 }
 
-// The same. `None` if a sound range doesn't begin above all kept ones before it.
-fn kept_in_order<X: Ranged + Copy>(alloc: Global, items: &[X]) -> Result<Option<Vec<X>>, AllocError>
-    ensures { IfOk result (λ found. IfSome found (λ those. those.items ≡ kept X.range items.now)) }
-{
-    let mut those = Vec::new(alloc);
-    let mut last = None;
-    for item in items {
-        if !is_above(last, item.range()) {
-            return Ok(None);
+impl KeptRanges {
+    ghost use Rattle.lnt_symbols.specs.Stepping.{HasKept};
+
+    /// No range yet. It takes no memory.
+    pub(crate) fn new(alloc: Global) -> KeptRanges
+        ensures { HasKept result [] }
+    {
+        KeptRanges {
+            rising: Vec::new(alloc),
+            last: None,
+            tree: None,
         }
-        last = keep_above(&mut those, last, *item)?;
     }
-    Ok(Some(those))
+
+    /// Forgets all ranges.
+    pub(crate) fn clear(&mut self)
+        ensures { HasKept self.new [] }
+    {
+        self.rising.clear();
+        self.last = None;
+        self.tree = None;
+    }
+
+    /// Whether a range is kept after those before, of which it is one then.
+    #[inline(always)]
+    #[tactic(auto, using(crate::proofs::KeptLemmas::not_sound))]
+    pub(crate) fn keep(&mut self, alloc: Global, range: Range) -> Result<bool, AllocError>
+        ensures said { (those : List spec.Range) → HasKept self.old those → IfOk result (λ kept. kept ≡ is_kept (λ y. y) those range) }
+        ensures kept { (those : List spec.Range) → HasKept self.old those → OnOk result (HasKept self.new (more_kept those range)) }
+    {
+        if !is_sound(range) {
+            return Ok(false);
+        }
+        if let Some(tree) = &mut self.tree {
+            return keep_in(tree, range);
+        }
+        if !is_above(self.last, range) {
+            return self.keep_below(alloc, range);
+        }
+        self.rising.push(range)?;
+        self.last = Some(last_of(range));
+        Ok(true)
+    }
+
+    // The same of the first range that doesn't begin above all kept ones before it: they go into a tree.
+    #[inline(never)]
+    fn keep_below(&mut self, alloc: Global, range: Range) -> Result<bool, AllocError>
+        requires { self.old.tree ≡ None }
+        ensures said { (those : List spec.Range) → HasKept self.old those → IfOk result (λ kept. kept ≡ is_kept (λ y. y) those range) }
+        ensures kept { (those : List spec.Range) → HasKept self.old those → OnOk result (HasKept self.new (more_kept those range)) }
+    {
+        let mut tree = tree_of(alloc, self.rising.as_slice())?;
+        let is_kept = keep_in(&mut tree, range)?;
+        self.rising = Vec::new(alloc);
+        self.tree = Some(tree);
+        Ok(is_kept)
+    }
 }
 
 // Whether a range begins above an address.
@@ -47,64 +92,34 @@ fn is_above(last: Option<u64>, range: Range) -> bool
     }
 }
 
-// Appends an item that begins above the last address of all kept ones, if it's sound; gives their last address then.
-#[inline(always)]
-#[tactic(auto, using(crate::proofs::KeptLemmas::kept_above, crate::proofs::KeptLemmas::ends_more))]
-fn keep_above<X: Ranged + Copy>(
-    those: &mut Vec<X>,
-    last: Option<u64>,
-    item: X,
-) -> Result<Option<u64>, AllocError>
-    requires last { IsTheLast X.range last those.old.items }
-    requires above { IsAbove last (X.range item) }
-    ensures kept { OnOk result (those.new.items
-        ≡ (if is_kept X.range those.old.items item then those.old.items ++ item ∷ [] else those.old.items)) }
-    ensures last { IfOk result (λ more. IsTheLast X.range more those.new.items) }
-{
-    let range = item.range();
-    if !is_sound(range) {
-        return Ok(last);
-    }
-    those.push(item)?;
-    Ok(Some(last_of(range)))
-}
-
-// The same as `kept`, whatever their order is.
+// The kept ones of ranges, as a tree.
 #[tactic(auto, using(crate::proofs::TreeLemmas::empty_tree))]
-fn kept_by_tree<X: Ranged + Copy>(alloc: Global, items: &[X]) -> Result<Vec<X>, AllocError>
-    ensures { IfOk result (λ those. those.items ≡ kept X.range items.now) }
+fn tree_of(alloc: Global, ranges: &[Range]) -> Result<BTreeMap<u64, u64>, AllocError>
+    ensures { IfOk result (λ tree. AreInTree tree (kept (λ y. y) ranges.now)) }
 {
-    let mut those = Vec::new(alloc);
     let mut tree = BTreeMap::new(alloc);
-    for item in items {
-        keep_in(&mut tree, &mut those, *item)?;
+    for range in ranges {
+        keep_in(&mut tree, *range)?;
     }
-    Ok(those)
+    Ok(tree)
 }
 
-// Appends an item if it's kept. The tree has the last address of each kept range at its first.
-#[tactic(auto, using(crate::proofs::TreeLemmas::kept_of_ranges))]
-fn keep_in<X: Ranged + Copy>(
-    tree: &mut BTreeMap<u64, u64>,
-    those: &mut Vec<X>,
-    item: X,
-) -> Result<(), AllocError>
-    requires { AreInTree tree.old (map X.range those.old.items) }
-    ensures kept { OnOk result (those.new.items
-        ≡ (if is_kept X.range those.old.items item then those.old.items ++ item ∷ [] else those.old.items)) }
-    ensures tree { OnOk result (AreInTree tree.new (map X.range those.new.items)) }
+// Whether a range is kept after those in the tree, which has it then.
+fn keep_in(tree: &mut BTreeMap<u64, u64>, range: Range) -> Result<bool, AllocError>
+    ensures said { (those : List spec.Range) → AreInTree tree.old those → IfOk result (λ kept. kept ≡ is_kept (λ y. y) those range) }
+    ensures kept { (those : List spec.Range) → AreInTree tree.old those → OnOk result (AreInTree tree.new (more_kept those range)) }
 {
-    let range = item.range();
     if !is_kept_by(tree, range) {
-        return Ok(());
+        return Ok(false);
     }
-    those.push(item)?;
-    put_in(tree, range)
+    put_in(tree, range)?;
+    Ok(true)
 }
 
 // Whether a range is kept after those in the tree.
 fn is_kept_by(tree: &BTreeMap<u64, u64>, range: Range) -> bool
-    ensures { (those : List spec.Range) → AreInTree tree.now those → result ≡ is_kept (λ y. y) those range }
+    ensures value { (those : List spec.Range) → AreInTree tree.now those → result ≡ is_kept (λ y. y) those range }
+    ensures sound { result ≡ true → is_sound range ≡ true }
 {
     is_sound(range) && !meets_one(tree, range)
 }

@@ -1,78 +1,15 @@
-//! The pieces of a file: what of the kept line records lies in their kept functions.
-ghost use Rattle.std.specs.Prelude.{◌≡◌, ◌++◌, ◌≤◌, ◌-◌, ◌^◌, IfOk, OnOk, flat_map, map, option_to_list};
+//! The piece of a line record: what of it lies in its function.
+ghost use Rattle.std.specs.Prelude.{◌≡◌, ◌++◌, ◌≤◌, ◌-◌, ◌^◌, OnOk};
 ghost use Rattle.lnt_symbols.specs.BreakpadAnswers.{end_of};
-ghost use Rattle.lnt_symbols.specs.Pieces.{cut_high, cut_line, cut_low, less, pieces_in, pieces_of};
-ghost use Rattle.lnt_symbols.specs.Stepping.{function_said_of, said_of};
+ghost use Rattle.lnt_symbols.specs.Pieces.{cut_high, cut_line, cut_low, less};
 
-use crate::breakpad::function::{Function, functions_in, lines_from};
-use crate::breakpad::kept::kept;
-use crate::breakpad::record::{LineRecord, Range, Record};
+use crate::breakpad::record::{LineRecord, Range};
 use crate::piece::Piece;
-use std::alloc::{AllocError, Global};
+use std::alloc::AllocError;
 
-/// The pieces of all functions, in the order of the file, if its address 0 is loaded at `base`. No two have an address in common.
-#[tactic(auto, using(crate::proofs::PieceLemmas::pieces_mapped))]
-pub(crate) fn pieces(
-    alloc: Global,
-    records: &[Record<'_>],
-    base: u64,
-) -> Result<Vec<Piece>, AllocError>
-    ensures { IfOk result (λ pieces. pieces.items ≡ pieces_of base (map said_of records.now)) }
-{
-    let functions = functions_in(alloc, records)?;
-    let functions = kept(alloc, functions.as_slice())?;
-    pieces_of_all(alloc, records, functions.as_slice(), base)
-}
-
-// The pieces of these functions.
-fn pieces_of_all(
-    alloc: Global,
-    records: &[Record<'_>],
-    functions: &[Function],
-    base: u64,
-) -> Result<Vec<Piece>, AllocError>
-    ensures { IfOk result (λ pieces. pieces.items ≡ flat_map (λ f. pieces_in base (function_said_of records.now f)) functions.now) }
-{
-    let mut pieces = Vec::new(alloc);
-    for function in functions {
-        add_function(alloc, &mut pieces, records, *function, base)?;
-    }
-    Ok(pieces)
-}
-
-// Adds the pieces of a function.
-fn add_function(
-    alloc: Global,
-    pieces: &mut Vec<Piece>,
-    records: &[Record<'_>],
-    function: Function,
-    base: u64,
-) -> Result<(), AllocError>
-    ensures { OnOk result (pieces.new.items ≡ pieces.old.items ++ pieces_in base (function_said_of records.now function)) }
-{
-    let lines = lines_from(alloc, records, function.next)?;
-    let lines = kept(alloc, lines.as_slice())?;
-    add_lines(pieces, function.range, lines.as_slice(), base)
-}
-
-// Adds the pieces of line records in their function.
-fn add_lines(
-    pieces: &mut Vec<Piece>,
-    function: Range,
-    lines: &[LineRecord],
-    base: u64,
-) -> Result<(), AllocError>
-    ensures { OnOk result (pieces.new.items ≡ pieces.old.items ++ flat_map (cut_line base function) lines.now) }
-{
-    for line in lines {
-        add_line(pieces, function, *line, base)?;
-    }
-    Ok(())
-}
-
-// Adds the piece of a line record in its function, if it has one.
+/// Adds the piece of a line record in its function, if it has one and the file's address 0 is loaded at `base`.
 #[inline(always)]
-fn add_line(
+pub(crate) fn add_line(
     pieces: &mut Vec<Piece>,
     function: Range,
     line: LineRecord,

@@ -1,29 +1,10 @@
 //! Ranges of addresses.
 ghost use Rattle.std.specs.Prelude.{◌≡◌, ◌+◌, nat_lt, true};
 ghost use Rattle.lnt_symbols.specs.BreakpadAnswers.{end_of, is_sound};
-ghost use Rattle.lnt_symbols.specs.declared.breakpad.record.Range.{Range as spec};
 
-use crate::breakpad::record::{LineRecord, Range};
+use crate::breakpad::record::Range;
 
-/// What has a range of addresses.
-pub(crate) trait Ranged {
-    ghost range: { Self → spec };
-
-    /// The range.
-    fn range(&self) -> Range
-        ensures { result ≡ range self.now };
-}
-
-impl Ranged for LineRecord {
-    ghost range = { λ line. line.range };
-
-    #[inline(always)]
-    fn range(&self) -> Range {
-        self.range
-    }
-}
-
-// Whether a range isn't empty, and its last address isn't above 2^64 - 1.
+/// Whether a range isn't empty, and its last address isn't above 2^64 - 1.
 #[inline(always)]
 pub(crate) fn is_sound(range: Range) -> bool
     ensures { result ≡ is_sound range }
@@ -31,7 +12,7 @@ pub(crate) fn is_sound(range: Range) -> bool
     range.size > 0 && range.size - 1 <= u64::MAX - range.address
 }
 
-// The last address of a range.
+/// The last address of a range.
 #[inline(always)]
 pub(crate) fn last_of(range: Range) -> u64
     requires { is_sound range ≡ true }
