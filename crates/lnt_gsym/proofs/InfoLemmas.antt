@@ -27,10 +27,10 @@ same_then (Ok value) f = refl
 
 -- ---- a part
 
-same_number : (n m : ℕ) → n ≡ m → (n == m) ≡ true
+pub same_number : (n m : ℕ) → n ≡ m → (n == m) ≡ true
 same_number n m e = grind (arith, nat_tests)
 
-other_number : (n m : ℕ) → (n ≡ m → ⊥) → (n == m) ≡ false
+pub other_number : (n m : ℕ) → (n ≡ m → ⊥) → (n == m) ≡ false
 other_number n m e = grind (arith, nat_tests)
 
 pub part_refused : (room files start : ℕ) (old : At) (fault : GsymFault) → part old ≡ Err fault

@@ -8,6 +8,9 @@ use Rattle.lnt_gsym.specs.GsymFiles.{at_place, files_of, functions_of, gsym_of, 
 use Rattle.lnt_gsym.specs.GsymFields.{fault_of}
 use Rattle.lnt_gsym.specs.GsymInfos.{Function, function_of}
 use Rattle.lnt_gsym.specs.Reading.{entry_fault, tables_said}
+use Rattle.lnt_gsym.specs.Spanning.{IsReadOf}
+use Rattle.lnt_gsym.specs.Walking.{NamesSaid}
+use Rattle.lnt_gsym.specs.declared.spans.Functions.{Functions}
 use Rattle.lnt_gsym.specs.declared.fault.GsymFault.{GsymFault}
 use Rattle.lnt_gsym.specs.declared.tables.Tables.{Tables as TablesRead}
 use Rattle.lnt_gsym.proofs.InfoLemmas.{same_then}
@@ -17,11 +20,15 @@ pub header_refused : (order : Order) (bytes : List ℕ) (fault : GsymFault) → 
     → fault_of (gsym_of order bytes) ≡ Some fault
 header_refused order bytes fault e = rw e refl
 
+pub no_fault : (order : Order) (bytes : List ℕ) (functions : Functions) (names : NamesSaid) → IsReadOf order bytes functions names
+    → fault_of (gsym_of order bytes) ≡ None
+no_fault order bytes functions names read = ap fault_of read.1
+
 pub tables_refused : (order : Order) (bytes : List ℕ) (h : Header) (fault : GsymFault) → header_of order bytes ≡ Ok h
     → tables_of order bytes h ≡ Err fault → fault_of (gsym_of order bytes) ≡ Some fault
 tables_refused order bytes h fault e f = rw (e, f) refl
 
-files_length : (order : Order) (count : ℕ) (bytes : List ℕ) → length (files_of order count bytes) ≡ count
+pub files_length : (order : Order) (count : ℕ) (bytes : List ℕ) → length (files_of order count bytes) ≡ count
 files_length order zero bytes = refl
 files_length order (suc count) bytes = let rest = files_length order count (drop 8 bytes) in omega (arith, rest)
 

@@ -17,12 +17,12 @@ same_row r s address file line =
     same
 
 -- no operation yet
-no_operation : (start first : ℕ) → record { address = start; file = 1; line = first % 2 ^ 32 } ≡ row_after start first []
+pub no_operation : (start first : ℕ) → record { address = start; file = 1; line = first % 2 ^ 32 } ≡ row_after start first []
 no_operation start first = same_row (record { address = start; file = 1; line = first % 2 ^ 32 }) (row_after start first [])
     (omega arith) refl (ap (λ n. n % 2 ^ 32) (omega arith))
 
 -- one more operation
-moved_back : (start first : ℕ) (done : Operation) (back : List Operation)
+pub moved_back : (start first : ℕ) (done : Operation) (back : List Operation)
     → moved (row_after start first back) done ≡ row_after start first (done ∷ back)
 moved_back start first done back =
     same_row (moved (row_after start first back) done) (row_after start first (done ∷ back))

@@ -33,11 +33,11 @@ last_of (row ∷ next ∷ rows) = last_of (next ∷ rows)
 abbrev pub row_at : ℕ → List Row → Option Row
 row_at a rows = last_of (take_while (λ row. not (nat_lt a row.address)) rows)
 
--- The last line table answers; none does if one has no row.
+-- The last line table answers; none does if one before it has no row there, or one of file 0.
 abbrev pub row_in : ℕ → List (List Row) → Option Row
 row_in a [] = None
 row_in a (rows ∷ []) = row_at a rows
-row_in a (rows ∷ next ∷ tables) = option_and_then (λ row. row_in a (next ∷ tables)) (row_at a rows)
+row_in a (rows ∷ next ∷ tables) = option_and_then (λ row. if row.file == 0 then None else row_in a (next ∷ tables)) (row_at a rows)
 
 -- ---- its path
 

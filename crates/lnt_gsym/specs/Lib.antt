@@ -4,4 +4,7 @@ pub mod GsymAnswers
 pub mod GsymFields
 pub mod GsymFiles
 pub mod GsymInfos
+pub mod GsymSpans
 pub mod Reading
+pub mod Spanning
+pub mod Walking

@@ -31,6 +31,7 @@ pub(crate) fn header_of(order: Order, bytes: &[u8]) -> Result<Header, GsymFault>
         (λ fault. header_of order bytes.now ≡ Err fault) }
     ensures size { IfOk result (λ header. is_address_size header.address_size ≡ true) }
     ensures length { OnOk result (48 ≤ length bytes.now) }
+    ensures strings { IfOk result (λ header. header.strings_place + header.strings_size ≤ length bytes.now) }
 {
     if bytes.len() < 48 {
         return Err(fault_at(0, GsymReason::Cut));

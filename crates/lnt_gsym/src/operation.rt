@@ -12,6 +12,7 @@ use lnt_wire::Cursor;
 pub(crate) fn line_numbers(cursor: &mut Cursor<'_>) -> Result<LineNumbers, GsymFault>
     ensures read { MatchResult result (λ n. line_numbers cursor.old ≡ Ok (n, cursor.new)) (λ fault. line_numbers cursor.old ≡ Err fault) }
     ensures range { IfOk result (λ n. n.least ≤ℤ n.greatest) }
+    ensures no_longer { OnOk result (length cursor.new.rest ≤ length cursor.old.rest) }
 {
     let least = signed(cursor)?;
     let place = cursor.place();

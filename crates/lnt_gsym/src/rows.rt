@@ -78,9 +78,9 @@ fn step(
     Ok(Some(next))
 }
 
-// The row after an operation.
+/// The row after an operation.
 #[inline(always)]
-fn moved(row: Row, done: Operation) -> Row
+pub(crate) fn moved(row: Row, done: Operation) -> Row
     requires { row.address < 2 ^ 65 }
     ensures { result ≡ moved row done }
 {

@@ -37,6 +37,10 @@ pub(crate) fn tables_of<'a>(
         (λ fault. tables_of order bytes.now (header_said bytes.now header) ≡ Err fault) }
     ensures starts { IfOk result (λ tables. length tables.starts.now ≡ header.address_size * header.count) }
     ensures infos { IfOk result (λ tables. length tables.infos.now ≡ 4 * header.count) }
+    ensures files { IfOk result (λ tables. length tables.files.now ≡ 8 * tables.count) }
+    ensures rise { IfOk result
+        (λ tables. first_lower header.address_size 48 (numbers_of order header.address_size header.count tables.starts.now)
+        ≡ None) }
 {
     let size = header.address_size as usize * header.count as usize;
     let starts = block(&mut cursor_at(order, bytes, 48), size)?;

@@ -1,6 +1,7 @@
 pub mod CutLemmas
 pub mod FieldLemmas
 pub mod FileLemmas
+pub mod GsymLemmas
 pub mod KeptLemmas
 pub mod PieceLemmas
 pub mod PlainLemmas

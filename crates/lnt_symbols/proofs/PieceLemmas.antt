@@ -259,7 +259,7 @@ answers_of names base records pieces same are =
 
 -- ---- the table
 
-whole_so : (f g : Position → Option PathAnswer) (bytes : List ℕ) → ((p : Position) → f p ≡ g p) → IsCanonicalPathTable Four f bytes
+pub whole_so : (f g : Position → Option PathAnswer) (bytes : List ℕ) → ((p : Position) → f p ≡ g p) → IsCanonicalPathTable Four f bytes
     → IsCanonicalPathTable Four g bytes
 whole_so f g bytes e h = record {
   spans = h.spans;
@@ -289,19 +289,22 @@ pub table_told : (path : ℕ → ℕ → List ℕ) (ps qs : List Piece) (answers
 table_told path ps qs answers old new h perm made =
     (made.0, made.1, whole_so (spans_by_path Four path (map piece_span qs)) answers made.0 (so_answered path ps qs answers h perm) made.2)
 
+-- a prefix of the table of the same answers
+pub begun_so : (f g : Position → Option PathAnswer) (old new : Option (List ℕ)) → ((p : Position) → f p ≡ g p)
+    → BeginsPathTable Four f old new → BeginsPathTable Four g old new
+begun_so f g old new same begun = record {
+  spans = begun.spans;
+  canonical = record { canonical = begun.canonical.canonical; same = λ p. begun.canonical.same p ∙ same p };
+  begun = begun.begun;
+  of_whole = λ bytes whole. begun.of_whole bytes (whole_so g f bytes (λ p. sym (same p)) whole);
+  decided = begun.decided;
+}
+
 pub table_begun : (path : ℕ → ℕ → List ℕ) (ps qs : List Piece) (answers : Position → Option PathAnswer) (old new : Option (List ℕ))
     → AnswerSo (path 0) ps answers → IsPermutation ps qs
     → BeginsPathTable Four (spans_by_path Four path (map piece_span qs)) old new → BeginsPathTable Four answers old new
 table_begun path ps qs answers old new h perm begun =
-    let same = so_answered path ps qs answers h perm in
-    record {
-      spans = begun.spans;
-      canonical = record { canonical = begun.canonical.canonical; same = λ p. begun.canonical.same p ∙ same p };
-      begun = begun.begun;
-      of_whole = λ bytes whole. begun.of_whole bytes (whole_so answers (spans_by_path Four path (map piece_span qs)) bytes
-          (λ p. sym (same p)) whole);
-      decided = begun.decided;
-    }
+    begun_so (spans_by_path Four path (map piece_span qs)) answers old new (so_answered path ps qs answers h perm) begun
 
 -- ---- one table
 

@@ -1,5 +1,5 @@
 -- What a symbol file answers at each address of a loaded program, and what is printed of it.
-use Rattle.std.specs.Prelude.{ℕ, ◌-◌, ◌^◌, nat_lt, List, ◌∷◌, [], ◌++◌, if◌then◌else◌, Option, None, Result, Ok, Err}
+use Rattle.std.specs.Prelude.{ℕ, ◌-◌, ◌^◌, nat_lt, List, ◌∷◌, [], ◌++◌, if◌then◌else◌, Option, None, Some, Result, Ok, Err}
 use Rattle.std.specs.Io.KnownBytes.{Appends}
 use Rattle.lnt_io.specs.Prefixes.{AppendsPrefix}
 use Rattle.lnt_io.specs.declared.status.Status.{Status}
@@ -8,9 +8,13 @@ use Rattle.lnt_spans.specs.declared.position.Position.{Position}
 use Rattle.lnt_records.specs.PathSpans.{PathAnswer}
 use Rattle.lnt_records.specs.declared.by_path.version.PathVersion.TheVariants.{Four}
 use Rattle.lnt_compare.specs.Canonical.{BeginsPathTable, IsCanonicalPathTable}
+use Rattle.lnt_gsym.specs.GsymAnswers.{gsym_answer}
+use Rattle.lnt_gsym.specs.GsymFiles.{gsym_of, order_of}
+use Rattle.lnt_wire.specs.declared.format.Order.{Order}
 use Rattle.lnt_symbols.specs.BreakpadAnswers.{answer_at, records_of}
 use Rattle.lnt_symbols.specs.FaultTexts.{symbol_fault_text}
 use Rattle.lnt_symbols.specs.declared.fault.SymbolFault.{SymbolFault}
+use Rattle.lnt_symbols.specs.declared.fault.SymbolFault.TheVariants.{Gsym}
 
 -- an answer at each address, if there is one
 abbrev pub Answers : Type 0
@@ -20,9 +24,17 @@ Answers = ℕ → Option PathAnswer
 abbrev pub loaded_at : ℕ → Answers → Answers
 loaded_at base answers a = if nat_lt a base then None else answers (a - base)
 
--- What the bytes of a symbol file answer if it is loaded at `base`, or what is wrong with them first.
+-- What the bytes of a Breakpad file answer if it is loaded at `base`, or what is wrong with them first.
+abbrev pub breakpad_answers : ℕ → List ℕ → Result Answers SymbolFault
+breakpad_answers base bytes = elim (records_of bytes) [ Err fault ↦ Err fault | Ok records ↦ Ok (loaded_at base (answer_at records)) ]
+
+-- What the bytes of a GSYM file answer, whose numbers have this order, or what is wrong with them first.
+abbrev pub gsym_answers : Order → List ℕ → Result Answers SymbolFault
+gsym_answers order bytes = elim (gsym_of order bytes) [ Err fault ↦ Err (Gsym fault) | Ok gsym ↦ Ok (gsym_answer gsym) ]
+
+-- The same of a symbol file: it is a GSYM file if its first number says so, and else a Breakpad file. A GSYM file has a base of its own.
 abbrev pub symbol_answers : ℕ → List ℕ → Result Answers SymbolFault
-symbol_answers base bytes = elim (records_of bytes) [ Err fault ↦ Err fault | Ok records ↦ Ok (loaded_at base (answer_at records)) ]
+symbol_answers base bytes = elim (order_of bytes) [ Some order ↦ gsym_answers order bytes | None ↦ breakpad_answers base bytes ]
 
 -- The answers as a table has them: at each position of an address, and at no address above 2^64 - 2, since the end of a span has 64 bits.
 abbrev pub answers_in_table : Answers → Position → Option PathAnswer

@@ -2,6 +2,7 @@
 ghost use Rattle.std.specs.Prelude.{Some};
 ghost use Rattle.lnt_symbols.specs.FaultTexts.{line_reason_text, symbol_fault_text};
 
+use lnt_gsym::GsymFault;
 use std::error::Error;
 use std::fmt;
 
@@ -39,6 +40,8 @@ impl fmt::Display for LineReason {
 pub enum SymbolFault {
     /// Of a Breakpad file: this line, counted from 1, for this reason.
     Line(u64, LineReason),
+    /// Of a GSYM file: the field at this fault's place, for its reason.
+    Gsym(GsymFault),
 }
 
 /// The line that reports it, without its line feed.
@@ -50,6 +53,7 @@ impl fmt::Display for SymbolFault {
             SymbolFault::Line(number, reason) => {
                 write!(f, "no 45 symbols line {number}: {reason}")
             }
+            SymbolFault::Gsym(fault) => write!(f, "{fault}"),
         }
     }
 }

@@ -1,13 +1,14 @@
-//! Symbol files, which crash reporters ship: text of the functions, files and lines of a program (Breakpad's `.sym`). Their answers are
-//! printed as an address table.
+//! Symbol files, which crash reporters ship: the functions, files and lines of a program, as text (Breakpad's `.sym`) or as tables (GSYM).
+//! Their answers are printed as an address table.
 #![tactic(auto)]
 
 mod breakpad;
 mod fault;
+mod gsym;
 pub mod laws;
 mod piece;
 mod print;
 mod table;
 
 pub use fault::{LineReason, SymbolFault};
-pub use print::print_symbols;
+pub use print::{is_gsym, print_symbols};

@@ -1,16 +1,21 @@
 //! Prints the address table of a symbol file.
-ghost use Rattle.std.specs.Prelude.{◌-◌, ◌^◌, ◌<◌, ◌⊎◌, IfOk, IfSome, OnErr, IsErrOf};
+ghost use Rattle.std.specs.Prelude.{◌≡◌, ◌-◌, ◌^◌, ◌<◌, ◌⊎◌, IfErr, IfOk, IfSome, OnErr, IsErrOf, is_some};
 ghost use Rattle.std.specs.Io.KnownBytes.{Keeps};
+ghost use Rattle.lnt_gsym.specs.GsymFiles.{order_of};
+ghost use Rattle.lnt_io.specs.IoStops.{IsPrinting};
 ghost use Rattle.lnt_io.specs.Stopping.{CountsFailure, IsTooLongOn};
 ghost use Rattle.lnt_symbols.specs.SymbolTables.{BeginsPrinted, HasPrinted, symbol_answers};
 
 use crate::breakpad::print_breakpad;
+use crate::gsym::print_gsym;
+use lnt_gsym::order_of;
 use lnt_io::{IoStop, Source, Status, read_all};
 use std::alloc::Global;
 use std::io::Write;
 
-/// Prints the canonical address table by path, in version 4, of what a symbol file answers at each address if its address 0 is loaded at
-/// `base`. If the file isn't a symbol file, it prints the line of its first fault (45), and nothing else.
+/// Prints the canonical address table by path, in version 4, of what a symbol file answers at each address. The address 0 of a Breakpad
+/// file is loaded at `base`; a GSYM file has a base of its own. If the file isn't a symbol file, it prints the line of its first fault
+/// (45), and nothing else.
 ///
 /// Returns `Done` if the table is printed, and `No` if that line is. Stops with `Read` only if the source failed, with `TooLong` only if
 /// the source has more bytes than it may give, with `Write` if the writer failed, and with `Memory`. If it stops, nothing has been
@@ -32,5 +37,30 @@ pub fn print_symbols<R: Source, W: Write>(
     ensures too_long { IsTooLongOn ⟦<R as Source>⟧ file.old file.new result IoStop.TooLong }
 {
     let bytes = read_all(alloc, file)?;
-    print_breakpad(alloc, bytes.as_slice(), base, out)
+    print_bytes(alloc, bytes.as_slice(), base, out)
+}
+
+// Prints the table of the symbol file with these bytes, or the line of its first fault.
+fn print_bytes<W: Write>(
+    alloc: Global,
+    bytes: &[u8],
+    base: u64,
+    out: &mut W,
+) -> Result<Status, IoStop>
+    ensures printed { IfOk result (λ status. HasPrinted (symbol_answers base bytes.now) (W.contents out.old) (W.contents out.new) status) }
+    ensures begun { OnErr result (Keeps (W.contents out.old) (W.contents out.new)
+        ⊎ BeginsPrinted (symbol_answers base bytes.now) (W.contents out.old) (W.contents out.new)) }
+    ensures err { IfErr result IsPrinting }
+{
+    match order_of(bytes) {
+        Some(order) => print_gsym(alloc, order, bytes, out),
+        None => print_breakpad(alloc, bytes, base, out),
+    }
+}
+
+/// Whether the bytes of a file begin as those of a GSYM file do: with the number 0x4753594d, in either byte order.
+pub fn is_gsym(bytes: &[u8]) -> bool
+    ensures { result ≡ is_some (order_of bytes.now) }
+{
+    order_of(bytes).is_some()
 }

@@ -9,7 +9,7 @@ ghost use Rattle.lnt_symbols.specs.BreakpadAnswers.{answer_at};
 ghost use Rattle.lnt_symbols.specs.BreakpadLines.{RecordSaid};
 ghost use Rattle.lnt_symbols.specs.Pieces.{HasTable};
 ghost use Rattle.lnt_symbols.specs.Stepping.{HasTaken};
-ghost use Rattle.lnt_symbols.specs.SymbolTables.{BeginsPrinted, HasPrinted, answers_in_table, loaded_at, symbol_answers};
+ghost use Rattle.lnt_symbols.specs.SymbolTables.{BeginsPrinted, HasPrinted, answers_in_table, breakpad_answers, loaded_at};
 
 use crate::breakpad::file::{ReadingStop, read_file};
 use crate::breakpad::reading::Reading;
@@ -25,9 +25,10 @@ pub(crate) fn print_breakpad<W: Write>(
     base: u64,
     out: &mut W,
 ) -> Result<Status, IoStop>
-    ensures printed { IfOk result (λ status. HasPrinted (symbol_answers base bytes.now) (W.contents out.old) (W.contents out.new) status) }
+    ensures printed { IfOk result
+        (λ status. HasPrinted (breakpad_answers base bytes.now) (W.contents out.old) (W.contents out.new) status) }
     ensures begun { OnErr result (Keeps (W.contents out.old) (W.contents out.new)
-        ⊎ BeginsPrinted (symbol_answers base bytes.now) (W.contents out.old) (W.contents out.new)) }
+        ⊎ BeginsPrinted (breakpad_answers base bytes.now) (W.contents out.old) (W.contents out.new)) }
     ensures err { IfErr result IsPrinting }
 {
     match read_file(alloc, bytes, base) {
