@@ -628,7 +628,7 @@ SHAPES = [
     Shape("a record of many fields by number", "check LINE TABLE --all", fields_behind(NUMBERS), 8_000_000, Memory(status=1)),
     Shape("a record of many fields by path", "check LINE TABLE", fields_behind(PATHS), 8_000_000, Memory(status=1)),
     Shape("a record of many fields by path", "check LINE TABLE --all", fields_behind(PATHS), 8_000_000, Memory(status=1)),
-    Shape("rows of a byte and a long path", "linetab-table gsym GSYM", gsym_rows, 20_000, IN_SCRIPT()),
+    Shape("rows of a byte and a long path", "symbols GSYM", gsym_rows, 20_000, Memory(times(4))),
     Shape("the same by their first rows", "linetab-table gsym-17 GSYM", gsym_rows, 20_000, IN_SCRIPT()),
     Shape("sequences", "linetab-table readelf TEXT", readelf_sequences, 100_000, IN_SCRIPT(times(16))),
     Shape("files of a long directory", "linetab-table llvm-dwarfdump TEXT", dumped_files, 20_000, IN_SCRIPT(times(16))),

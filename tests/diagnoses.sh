@@ -240,20 +240,19 @@ misplaced() {
   printf %s "$(cat app.sym)" >cut.sym
   refused 'one without the last end of a line' cut.sym 'its last line, 6, has no end: it is cut' check app cut.sym
   head -c 40 app.gsym >cut.gsym
-  refused 'a GSYM file that is cut' cut.gsym 'it is cut or damaged' check app cut.gsym
+  expect 'a GSYM file that is cut' 1 $'no 45 symbols at 0x0: cut\n' '' bash -c 'bin/linetab-object check app cut.gsym 2>/dev/null'
 }
 
 makers() {
   local maker file
   says=linetab-table:
   printf 'app:\tfile format elf64-x86-64\n\n.debug_line contents:\n' >app.llvm
-  declare -A kinds=([app.sym]='it is a symbol file of Breakpad: linetab symbols app.sym' [app.gsym]='it is a GSYM file: linetab-table gsym app.gsym'
+  declare -A kinds=([app.sym]='it is a symbol file of Breakpad: linetab symbols app.sym' [app.gsym]='it is a GSYM file: linetab symbols app.gsym'
     [app.llvm]='it is what llvm-dwarfdump --debug-line prints: linetab-table llvm-dwarfdump app.llvm'
     [app.readelf]='it is what readelf --debug-dump=decodedline prints: linetab-table readelf app.readelf'
     [four.csv]='it is an address table already: linetab-object check PROGRAM four.csv compares it with a program')
-  declare -A own=([gsym]=app.gsym [gsym-17]=app.gsym [llvm-dwarfdump]=app.llvm [readelf]=app.readelf)
-  declare -A of=([gsym]='llvm-gsymutil --convert app --out-file FILE makes a GSYM file of it'
-    [gsym-17]='llvm-gsymutil --convert app --out-file FILE makes a GSYM file of it'
+  declare -A own=([gsym-17]=app.gsym [llvm-dwarfdump]=app.llvm [readelf]=app.readelf)
+  declare -A of=([gsym-17]='llvm-gsymutil --convert app --out-file FILE makes a GSYM file of it'
     [llvm-dwarfdump]='llvm-dwarfdump --debug-line app | linetab-table llvm-dwarfdump -'
     [readelf]='readelf --wide --debug-dump=decodedline app | linetab-table readelf -')
   for maker in "${!own[@]}"; do
@@ -267,7 +266,7 @@ makers() {
     expect_notes "points of $file" 3 '' "$says $file: ${kinds[$file]}"$'\n' "$work/bin/linetab-table" points addr2line "$file"
   done
   expect_notes 'another maker by a pipe' 3 '' "$says -: it is a symbol file of Breakpad: linetab symbols -"$'\n' \
-    bash -c 'cat app.sym | bin/linetab-table gsym -'
+    bash -c 'cat app.sym | bin/linetab-table gsym-17 -'
 }
 
 shifts

@@ -203,13 +203,13 @@ made_in_bash() {
       printf "%s\n" "${COMPREPLY[@]}" | sort' "$prefix/share/bash-completion/completions/linetab-table" "$@"
   }
   same 'makers in bash' "$(makers)" "$(made linetab-table '' | grep -v '^-')"
-  same 'options of makers in bash' "$(made_options)" "$(made linetab-table gsym --)"
+  same 'options of makers in bash' "$(made_options)" "$(made linetab-table gsym-17 --)"
   same 'a command in bash' bash "$(made linetab-table points bash | grep -x bash | head -n 1)"
   same 'options of makers in the man page' "$(made_options)" \
     "$(sed -nE 's/\\-/-/g; s/^\.B (-[a-zA-Z], )?(--[a-z-]*).*/\2/p' "$prefix/share/man/man1/linetab-table.1" | sort)"
   same 'makers in the man page' "$(makers)" \
     "$(sed -nE '/^\.SH MAKERS/,/^\.SH OPTIONS/s/^\.B ([a-z0-9\\-]+).*/\1/p' "$prefix/share/man/man1/linetab-table.1" | tr -d '\\' | sort)"
-  expect 'makers with a version' 0 $'gsym\ngsym-17\n' '' grep ^gsym <(makers)
+  expect 'makers with a version' 0 $'gsym-17\n' '' grep ^gsym <(makers)
 }
 
 in_fish() {

@@ -21,26 +21,24 @@ refuses() { # NAME REASON MAKER FILE
 }
 
 gsym() {
-  local order cut wrong=0 wanted=$three$'0x1000,0x1004,/src/a.c,5\n0x1004,0x1008,/src/a.c,7\n0x1008,0x1010,b.h,9\n0x1014,0x1020,/src/a.c,20\n'
+  local order cut wrong=0 wanted=$three$'0x1000,0x1004,/src/a.c,5\n0x1004,0x1005,/src/a.c,6\n0x1005,0x1008,/src/a.c,7\n0x1008,0x1010,b.h,9\n0x1014,0x1020,/src/a.c,20\n'
   wanted+=$'0x1032,0x1038,/src/a.c,40\n0x1040,0x1050,/src/a.c,50\n0x1050,0x1054,/src/a.c,60\n'
   for order in little big; do
     python3 tests/gsym_file.py $order "$work/$order"
-    expect "a GSYM file, $order-endian" 0 "$wanted" '' table gsym "$work/$order"
+    expect "a GSYM file, $order-endian" 0 "$wanted" '' table gsym-17 "$work/$order"
   done
-  expect 'the same by its first rows' 0 "${wanted/0x1004,0x1008,\/src\/a.c,7/0x1004,0x1005,/src/a.c,6$'\n'0x1005,0x1008,/src/a.c,7}" '' \
-    table gsym-17 "$work/little"
   for ((cut = 1; cut < $(stat -c %s "$work/little"); cut += 23)); do
     head -c $cut "$work/little" >"$work/cut"
-    table gsym "$work/cut" >"$work/out" 2>"$work/err"
+    table gsym-17 "$work/cut" >"$work/out" 2>"$work/err"
     [ "$?" -eq 3 ] && [ ! -s "$work/out" ] && [ "$(wc -l <"$work/err")" -eq 1 ] || wrong=$((wrong + 1))
   done
   expect 'a GSYM file that is cut anywhere' 0 $'0\n' '' echo $wrong
-  refuses 'no GSYM file' "it isn't a GSYM file" gsym tests/units.sh
+  refuses 'no GSYM file' "it isn't a GSYM file" gsym-17 tests/units.sh
   (head -c 4 "$work/little"; bytes 02; tail -c +6 "$work/little") >"$work/two"
-  refuses 'a GSYM file of another version' 'GSYM version 2 is not supported' gsym "$work/two"
+  refuses 'a GSYM file of another version' 'GSYM version 2 is not supported' gsym-17 "$work/two"
   python3 tests/gsym_file.py little "$work/shared" 20000
   expect 'a line table that many functions share' 3 '' "$says $work/shared: it is cut or damaged"$'\n' \
-    timeout 60 "$work/bin/linetab-table" gsym "$work/shared"
+    timeout 60 "$work/bin/linetab-table" gsym-17 "$work/shared"
 }
 
 llvm_dwarfdump() {
@@ -154,7 +152,7 @@ lines() {
   sed -i '1s/^/\xff\xfe/' "$work/broken"
   refuses 'lines in UTF-16' "it is UTF-16, and has to be UTF-8: iconv -f UTF-16 -t UTF-8 $work/broken" lines "$work/broken"
   refuses 'a section' 'it is no text' lines examples/hello.debug_line
-  refuses 'lines for another maker' "it is lines of addresses, paths and line numbers: linetab-table lines $work/lines" gsym "$work/lines"
+  refuses 'lines for another maker' "it is lines of addresses, paths and line numbers: linetab-table lines $work/lines" gsym-17 "$work/lines"
 }
 wrong_line() { # LINE REASON
   printf '0x1010 /w/a.c:4\n%s\n' "$1" >"$work/broken"
@@ -257,22 +255,22 @@ whole_paths() {
 }
 
 words() {
-  local makers='gsym, gsym-17, llvm-dwarfdump, readelf, lines, points' maker text
+  local makers='gsym-17, llvm-dwarfdump, readelf, lines, points' maker text
   expect 'no words' 2 '' "$says one of $makers is wanted first: linetab-table MAKER FILE [OPTIONS..]"$'\n' table
   expect 'another maker' 2 '' "$says one of $makers is wanted first: linetab-table MAKER FILE [OPTIONS..]"$'\n' table gdb file
-  expect 'no file' 2 '' "$says linetab-table gsym FILE: no more and no less is wanted"$'\n' table gsym
+  expect 'no file' 2 '' "$says linetab-table gsym-17 FILE: no more and no less is wanted"$'\n' table gsym-17
   expect 'a word too many' 2 '' "$says linetab-table readelf FILE: no more and no less is wanted"$'\n' table readelf a b
-  expect 'an option of another maker' 2 '' "$says --dead is for llvm-dwarfdump and readelf"$'\n' table gsym a --dead 0x0
+  expect 'an option of another maker' 2 '' "$says --dead is for llvm-dwarfdump and readelf"$'\n' table gsym-17 a --dead 0x0
   expect 'no address' 2 '' "$says argument --dead: an address is 0x and 1 to 16 hexadecimal digits, and 12 isn't"$'\n' \
     table readelf a --dead 12
-  expect 'a bad option with an escape' 2 '' "$says unrecognized arguments: "'--\x1b[31mred'$'\n' table gsym file $'--\e[31mred'
+  expect 'a bad option with an escape' 2 '' "$says unrecognized arguments: "'--\x1b[31mred'$'\n' table gsym-17 file $'--\e[31mred'
   expect 'another command' 2 '' "$says gdb: COMMAND is an addr2line, eu-addr2line or llvm-symbolizer, and named so, or --like says which"$'\n' \
     table points gdb app
   expect 'a command like none' 2 '' \
     "$says argument --like: COMMAND answers like addr2line, eu-addr2line or llvm-symbolizer, and not like gdb"$'\n' \
     table points gdb app --like gdb
   expect 'like for another maker' 2 '' "$says --like is for points"$'\n' table lines file --like addr2line
-  expect 'a file that is not there' 3 '' "$says none: cannot read it: No such file or directory"$'\n' table gsym none
+  expect 'a file that is not there' 3 '' "$says none: cannot read it: No such file or directory"$'\n' table gsym-17 none
   expect 'a folder' 3 '' "$says tests: cannot read it: Is a directory"$'\n' table lines tests
   expect 'help' 0 $'usage: linetab-table MAKER FILE [OPTIONS..]\n' '' bash -c 'table --help | grep usage'
   for maker in $(tr -d , <<<"$makers"); do
@@ -282,18 +280,18 @@ words() {
     expect "the help of $maker, behind a file" 0 "$(table $maker --help)"$'\n' '' table $maker file -h
     expect "it begins with $maker" 0 "$maker"$'\n' '' bash -c 'table "$0" --help | sed -nE "1s/^([a-z0-9-]+) .*/\1/p"' $maker
   done
-  expect 'the options of gsym' 0 $'--help\n--paths-of\n--quiet\n' '' options_of gsym
+  expect 'the options of gsym-17' 0 $'--help\n--paths-of\n--quiet\n' '' options_of gsym-17
   expect 'the options of readelf' 0 $'--dead\n--help\n--paths-of\n--quiet\n--skip-copies\n' '' options_of readelf
   expect 'the options of points' 0 $'--help\n--like\n--paths-of\n--quiet\n' '' options_of points
-  expect 'no version behind a maker' 2 '' "$says unrecognized arguments: --version"$'\n' table gsym file --version
+  expect 'no version behind a maker' 2 '' "$says unrecognized arguments: --version"$'\n' table gsym-17 file --version
   ln -s "$PWD/crates/linetab/out/linetab" "$work/bin/linetab"
   for text in --version -V; do
     expect "the version, by $text" 0 "$("$work/bin/linetab" --version | sed 's/^linetab /linetab-table /')"$'\n' '' table $text
   done
   rm "$work/bin/linetab"
   expect 'a version without the program' 3 '' "$says the program linetab can't be run: No such file or directory"$'\n' table --version
-  expect 'a full device' 3 '' "$says cannot write: No space left on device"$'\n' bash -c 'table gsym "$work/little" >/dev/full'
-  expect 'a closed pipe' 3 '' '' bash -c 'mkfifo "$work/pipe"; exec 3<>"$work/pipe" 4>"$work/pipe" 3<&-; table gsym "$work/little" >&4'
+  expect 'a full device' 3 '' "$says cannot write: No space left on device"$'\n' bash -c 'table gsym-17 "$work/little" >/dev/full'
+  expect 'a closed pipe' 3 '' '' bash -c 'mkfifo "$work/pipe"; exec 3<>"$work/pipe" 4>"$work/pipe" 3<&-; table gsym-17 "$work/little" >&4'
 }
 
 options_of() { # MAKER
@@ -330,12 +328,12 @@ END
   done
 }
 of_program() { # PROGRAM
-  local tool name=${1##*/} maker
+  local tool name=${1##*/} reader
   for tool in $(compgen -c llvm-gsymutil | grep -xE 'llvm-gsymutil(-[0-9]+)?' | sort -u); do
     "$tool" --convert "$1" --out-file "$1.gsym" >/dev/null 2>&1 || { skip "$tool makes no GSYM file of $name"; continue; }
-    maker=gsym
-    [ "$("$tool" --version | sed -nE 's/.*LLVM version ([0-9]+).*/\1/p')" -gt 17 ] || maker=gsym-17
-    ./linetab-table $maker "$1.gsym" >"$1.csv"
+    reader=("$program" symbols)
+    [ "$("$tool" --version | sed -nE 's/.*LLVM version ([0-9]+).*/\1/p')" -gt 17 ] || reader=(./linetab-table gsym-17)
+    "${reader[@]}" "$1.gsym" >"$1.csv"
     expect "the answers of $tool of $name" 0 '' '' python3 tests/peers/gsym.py "$tool" "$1.gsym" "$1.csv" 1000
   done
   is_right "$name by llvm-dwarfdump" llvm-dwarfdump "$1" 'llvm-dwarfdump --debug-line "$0" | ./linetab-table llvm-dwarfdump - --skip-copies'

@@ -1,5 +1,5 @@
-"""resolver.py PROGRAM FOLDER: compares the tables that `PROGRAM symbols` prints of the symbol files of FOLDER with what Breakpad's own
-reader answers (tests/resolver/README.md). The last line is 'N passed, M failed'."""
+"""resolver.py PROGRAM FOLDER: compares the tables that `PROGRAM symbols` prints of the symbol files of FOLDER with what the formats' own
+readers answer (tests/resolver/README.md). The last line is 'N passed, M failed'."""
 
 import bisect
 import csv
@@ -26,9 +26,9 @@ def answer(lows, spans, address):
 def main():
     program, folder = sys.argv[1:]
     passed = failed = 0
-    for name in sorted(glob.glob(os.path.join(folder, "*.sym"))):
+    for name in sorted(glob.glob(os.path.join(folder, "*sym"))):
         lows, spans = table_of(program, name)
-        with open(name[: -len("sym")] + "answers", encoding="latin-1") as answers:
+        with open(os.path.splitext(name)[0] + ".answers", encoding="latin-1") as answers:
             for line in answers:
                 address, _, wanted = line.rstrip("\n").partition(" ")
                 given = answer(lows, spans, int(address, 16))

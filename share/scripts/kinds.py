@@ -70,15 +70,13 @@ def foreign(maker, head, name):
         return "it is an address table already: linetab-object check PROGRAM %s compares it with a program" % name
     if kind == PROGRAM:
         return "it is a program: " + OF_PROGRAM[maker] % name
-    reader = "linetab symbols" if kind == BREAKPAD else "linetab-table " + kind
+    reader = "linetab symbols" if kind in (BREAKPAD, GSYM) else "linetab-table " + kind
     return "it is %s: %s %s" % (NAMES[kind], reader, name)
 
 
 # What a maker reads of a program.
-OF_GSYM = "llvm-gsymutil --convert %s --out-file FILE makes a GSYM file of it"
 OF_PROGRAM = {
-    "gsym": OF_GSYM,
-    "gsym-17": OF_GSYM,
+    "gsym-17": "llvm-gsymutil --convert %s --out-file FILE makes a GSYM file of it",
     "llvm-dwarfdump": "llvm-dwarfdump --debug-line %s | linetab-table llvm-dwarfdump -",
     "readelf": "readelf --wide --debug-dump=decodedline %s | linetab-table readelf -",
     "lines": "linetab-table points addr2line %s asks one about each address of its code",

@@ -1,6 +1,5 @@
 #!/usr/bin/env python3
-"""gsym.py TOOL GSYM TABLE LEAST: asks TOOL, an llvm-gsymutil, of each address about the spans of TABLE, which linetab-table made of
-GSYM, and prints where the two differ. Less than LEAST answered addresses are a failure too."""
+"""gsym.py TOOL GSYM TABLE LEAST: asks TOOL, an llvm-gsymutil, of each address about the spans of TABLE, which was made of GSYM, and prints where the two differ. Less than LEAST answered addresses are a failure too."""
 
 import bisect
 import csv
@@ -23,7 +22,7 @@ def said(tool, gsym, addresses):
         answer = ANSWER.match(line)
         if answer:
             place = PLACE.fullmatch(answer[2])
-            found[int(answer[1], 16)] = (place[1].replace("//", "/"), place[2]) if place else None
+            found[int(answer[1], 16)] = (place[1], place[2]) if place else None
     return found
 
 

@@ -9,7 +9,7 @@ ABOUT = """Writes.
 usage: linetab-table MAKER FILE [OPTIONS..]
 
 Makers:
-  gsym            A file
+  lines           A file
   gsym-17         Another
                   file
   points COMMAND  A program
@@ -41,8 +41,8 @@ class Words(unittest.TestCase):
 
     def test_what_is_refused(self):
         for typed, text in (
-            ([], "one of gsym, gsym-17, llvm-dwarfdump"), (["gdb", "a"], "one of gsym"), (["gsym"], "linetab-table gsym FILE"),
-            (["gsym", "a", "b"], "linetab-table gsym FILE"), (["readelf", "a", "--like", "addr2line"], "--like is for points"),
+            ([], "one of gsym-17, llvm-dwarfdump"), (["gdb", "a"], "one of gsym-17"), (["gsym-17"], "linetab-table gsym-17 FILE"),
+            (["gsym-17", "a", "b"], "linetab-table gsym-17 FILE"), (["readelf", "a", "--like", "addr2line"], "--like is for points"),
             (["gsym-17", "a", "--dead", "0x0"], "--dead is for llvm-dwarfdump and readelf"), (["readelf", "a", "--dead", "12"], "12 isn't"),
             (["points", "gdb", "app"], "COMMAND is an addr2line"),
         ):
@@ -56,10 +56,10 @@ class Helps(unittest.TestCase):
         self.assertIn("usage: linetab-table points COMMAND FILE [OPTIONS..]", command.help_of(ABOUT, "points"))
 
     def test_parts(self):
-        self.assertEqual([left for left, _ in command.part_of(ABOUT, "Makers")], ["gsym", "gsym-17", "points COMMAND"])
+        self.assertEqual([left for left, _ in command.part_of(ABOUT, "Makers")], ["lines", "gsym-17", "points COMMAND"])
         self.assertTrue(command.is_of("readelf", ["", "(llvm-dwarfdump, readelf)"]))
-        self.assertFalse(command.is_of("gsym", ["", "(llvm-dwarfdump, readelf)"]))
-        self.assertTrue(command.is_of("gsym", ["for all"]))
+        self.assertFalse(command.is_of("lines", ["", "(llvm-dwarfdump, readelf)"]))
+        self.assertTrue(command.is_of("lines", ["for all"]))
 
 
 class Tables(unittest.TestCase):
@@ -87,7 +87,7 @@ class Tables(unittest.TestCase):
                 self.assertEqual(b"".join(command.table_for(command.asked_for(["lines", file.name]))), table)
 
     def test_each_maker_has_a_name(self):
-        self.assertEqual(list(command.MAKERS), ["gsym", "gsym-17", "llvm-dwarfdump", "readelf", "lines", "points"])
+        self.assertEqual(list(command.MAKERS), ["gsym-17", "llvm-dwarfdump", "readelf", "lines", "points"])
 
 
 if __name__ == "__main__":

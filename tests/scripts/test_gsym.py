@@ -7,13 +7,13 @@ from scripts.table.gsym import Gsym, first_rows, number
 
 SRC = b"/src/a.c"
 WANTED = [
-    (0x1000, 0x1004, (SRC, 5)), (0x1004, 0x1008, (SRC, 7)), (0x1008, 0x1010, (b"b.h", 9)), (0x1014, 0x1020, (SRC, 20)),
+    (0x1000, 0x1004, (SRC, 5)), (0x1004, 0x1005, (SRC, 6)), (0x1005, 0x1008, (SRC, 7)), (0x1008, 0x1010, (b"b.h", 9)), (0x1014, 0x1020, (SRC, 20)),
     (0x1032, 0x1038, (SRC, 40)), (0x1040, 0x1050, (SRC, 50)), (0x1050, 0x1054, (SRC, 60)),
 ]
 
 
-def spans_of(data, **given):
-    return list(gsym.spans_of(data, **given))
+def spans_of(data):
+    return list(gsym.spans_of(data))
 
 
 def small(order="<"):
@@ -24,11 +24,6 @@ class Files(unittest.TestCase):
     def test_answers_in_both_orders(self):
         for order in "<>":
             self.assertEqual(spans_of(small(order)), WANTED)
-
-    def test_answers_of_older_readers(self):
-        found = spans_of(small(), first_row=True)
-        self.assertEqual(found[:4], [WANTED[0], (0x1004, 0x1005, (SRC, 6)), (0x1005, 0x1008, (SRC, 7)), WANTED[2]])
-        self.assertEqual(found[4:], WANTED[3:])
 
     def test_functions_of_one_start(self):
         found = list(Gsym(small()).functions())
@@ -54,7 +49,6 @@ class Files(unittest.TestCase):
         functions = [(0x1000 + 16 * k, 16, table) for k in range(100)]
         with self.assertRaisesRegex(Refusal, "cut or damaged"):
             spans_of(gsym_file.whole("<", functions, True))
-
 
     def test_addresses_of_any_size(self):
         for base, width, kind in ((0, 1, "B"), (7, 2, "H"), (1 << 40, 8, "Q")):

@@ -34,9 +34,10 @@ class Kinds(unittest.TestCase):
         self.assertIsNone(foreign("points", b"\x7fELF", "a"))
         self.assertIsNone(foreign("readelf", b"what?", "a"))
         self.assertIsNone(foreign("lines", b"10 a:3", "a"))
-        self.assertEqual(foreign("gsym", b"10 a:3", "a"), "it is lines of addresses, paths and line numbers: linetab-table lines a")
+        self.assertEqual(foreign("gsym-17", b"10 a:3", "a"), "it is lines of addresses, paths and line numbers: linetab-table lines a")
         self.assertEqual(foreign("lines", b"MZ", "a"), "it is a program: linetab-table points addr2line a asks one about each address of its code")
-        self.assertEqual(foreign("gsym", b"MODULE ", "a"), "it is a symbol file of Breakpad: linetab symbols a")
+        self.assertEqual(foreign("gsym-17", b"MODULE ", "a"), "it is a symbol file of Breakpad: linetab symbols a")
+        self.assertEqual(foreign("lines", b"MYSG", "a"), "it is a GSYM file: linetab symbols a")
         self.assertIn("linetab-table readelf -", foreign("readelf", b"\x7fELF", "a"))
 
 

@@ -67,9 +67,9 @@ class Files(unittest.TestCase):
             self.assertEqual(table.read(), b"low,high,path,line\n0x1010,0x1014,/a.c,7\n")
 
     def test_a_refusal_names_it(self):
-        other = self.other(b"MYSG\1\0")
+        other = self.other(b"MODULE Linux x86_64 01 app\nFUNC 10")
         with self.assertRaises(Refusal) as caught:
-            list(other.spans())
+            other.symbols(0)
         self.assertEqual(caught.exception.name, other.name)
 
 

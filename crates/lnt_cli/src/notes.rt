@@ -11,8 +11,8 @@ use lnt_compare::Compared;
 use lnt_io::{Files, IoStop, Status};
 use lnt_lines::No;
 use lnt_notes::{
-    Columns, Given, Hints, Seen, note_agreed, note_bad, note_difference, note_good, note_no_symbols,
-    note_refused, note_table, print_line_of, print_note,
+    Columns, Given, Hints, Seen, note_agreed, note_bad, note_base, note_difference, note_good,
+    note_no_symbols, note_refused, note_table, print_line_of, print_note,
 };
 use lnt_records::TableFault;
 use lnt_spans::Position;
@@ -70,7 +70,11 @@ impl<'t> Answered<'t> {
     }
 
     // What is answered to the check of the table in the file with this name.
-    pub(crate) fn of_check(checked: &CheckedWithin, asked: TableCheck, table: &'t str) -> Answered<'t>
+    pub(crate) fn of_check(
+        checked: &CheckedWithin,
+        asked: TableCheck,
+        table: &'t str,
+    ) -> Answered<'t>
         ensures { result.status ≡ checked_status asked.at_least checked.now }
     {
         match checked {
@@ -88,9 +92,9 @@ impl<'t> Answered<'t> {
             CheckedWithin::Checked(OfKind::Numbered(Verdict::No(TableNo::Section(no)))) => {
                 Answered::no(Occasion::Bad(*no))
             }
-            CheckedWithin::Checked(OfKind::Numbered(Verdict::No(TableNo::Differs {
-                position, ..
-            }))) => Answered::no(differs_at(*position, asked, table)),
+            CheckedWithin::Checked(
+                OfKind::Numbered(Verdict::No(TableNo::Differs { position, .. })),
+            ) => Answered::no(differs_at(*position, asked, table)),
             CheckedWithin::Checked(OfKind::Numbered(Verdict::No(no))) => {
                 Answered::no(match no.fault() {
                     Some(fault) => Occasion::Faulty(table, fault, Columns::Numbered),
@@ -187,6 +191,9 @@ fn note_ended<O: Files, N: Write>(
     match (request, answered.occasion) {
         (Request::JudgeWith { from, .. }, Occasion::Differs(position)) => {
             let _ = note_difference(alloc, position, &given_of(from), opener, notes);
+        }
+        (Request::Symbols { base: 1.., .. }, _) if answered.status == Status::Done => {
+            let _ = note_base(alloc, seen, notes);
         }
         _ => {
             let _ = note_answer(alloc, request, answered, seen, opener, notes);

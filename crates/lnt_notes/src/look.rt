@@ -36,11 +36,17 @@ pub(crate) fn file_look(head: &[u8]) -> Option<Look> {
         | [0xca, 0xfe, 0xba, 0xbe, ..] => Some(Look::MachO),
         [0x1f, 0x8b, ..] => Some(Look::Gzip),
         [0x28, 0xb5, 0x2f, 0xfd, ..] => Some(Look::Zstd),
-        [b'M', b'O', b'D', b'U', b'L', b'E', b' ', ..]
-        | [b'M', b'Y', b'S', b'G', ..]
-        | [b'G', b'S', b'Y', b'M', ..] => Some(Look::Symbols),
-        _ => None,
+        [b'M', b'O', b'D', b'U', b'L', b'E', b' ', ..] => Some(Look::Symbols),
+        _ => is_gsym(head).then_some(Look::Symbols),
     }
+}
+
+// Whether a GSYM file begins with these bytes.
+pub(crate) fn is_gsym(head: &[u8]) -> bool {
+    matches!(
+        head,
+        [b'M', b'Y', b'S', b'G', ..] | [b'G', b'S', b'Y', b'M', ..]
+    )
 }
 
 // Whether the bytes begin with the header of a compressed section: that of ELF, or that of the older `.zdebug_line`. ELF's

@@ -9,7 +9,7 @@ ghost use Rattle.lnt_io.specs.Prefixes.{AppendsPrefix};
 ghost use Rattle.lnt_notes.specs.Notes.{IsOneLine, TellsNotes, WritesNotes, line_of};
 
 use crate::ends::{end_alike, held_by_several};
-use crate::look::{file_look, look_of};
+use crate::look::{file_look, is_gsym, look_of};
 use crate::markers::{GREATEST, may_be_marker};
 use crate::records::{Columns, column_at, line_after};
 use crate::survey::{Survey, survey_of};
@@ -27,6 +27,9 @@ use lnt_wire::{Order, Reason};
 use std::alloc::{AllocError, Global};
 use std::fmt;
 use std::io::{BufReader, Write};
+
+// What the note says of a base that is given for a GSYM file.
+const OWN_BASE: &str = "a GSYM file has a base of its own, so --base is passed over";
 
 // What the note says of a position that copies hold.
 const ANY_COPY: &str =
@@ -170,6 +173,16 @@ pub fn note_no_symbols<N: Write>(alloc: Global, seen: &Seen, notes: &mut N) -> R
 {
     let other = file_look(seen.head()).filter(|look| !matches!(look, Look::Symbols));
     print_any(alloc, other.map(Note::NotRaw), notes)
+}
+
+/// Prints the note to the table of a symbol file for which a base was given, if the file has one of its own. It fails as [`print_note`].
+pub fn note_base<N: Write>(alloc: Global, seen: &Seen, notes: &mut N) -> Result<(), IoStop>
+    ensures { WritesNotes (N.contents notes.old) (N.contents notes.new) }
+{
+    if is_gsym(seen.head()) {
+        return print_line_of(alloc, OWN_BASE, notes);
+    }
+    Ok(())
 }
 
 /// Prints the notes to the reason why a section isn't good. It fails as [`print_note`], maybe after other notes.

@@ -137,11 +137,11 @@ pub(crate) const SUBCOMMANDS: [Subcommand; 11] = [
     },
     Subcommand {
         name: "symbols",
-        about: "Prints the address table of a symbol file of Breakpad, as its own reader answers from it",
+        about: "Prints the address table of a symbol file of Breakpad or a GSYM file, as the format's own reader answers from it",
         after: Some(BASE),
         own: arguments! {
             "FILE" => Word, "The symbol file, or - for standard input";
-            "base" => Valued("ADDRESS"), "The address of the program's first byte, from which the file's addresses count; 0x0 by default";
+            "base" => Valued("ADDRESS"), "The address of the program's first byte, from which addresses in a file of Breakpad count; 0x0 by default";
         },
         shared: arguments! {
             "quiet" => Flag, QUIET;
@@ -198,8 +198,8 @@ the status is then 1.";
 // What the table of a symbol file is, and the line `no` of `symbols`.
 const BASE: &str =
     "The table has the path and the line at each address, as table --lines prints those of a section, so check can \
-compare the two. The line 'no 45 symbols line L: REASON' names the first line that isn't valid in a symbol file, and the status is 1 \
-(docs/TABLES.md).";
+compare the two. The line 'no 45 symbols line L: REASON', of a GSYM file 'no 45 symbols at 0xP: REASON', names the first line or field \
+that isn't valid, and the status is 1 (docs/TABLES.md).";
 
 // What the words `same`, `differs` and `unreadable` in the lines of `md5` mean.
 const SUMS: &str = "A file is the same, differs, or is unreadable: it can't be opened or read. \

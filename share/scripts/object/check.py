@@ -4,8 +4,9 @@ import os
 import re
 
 from scripts.bounded import Failure, Nothing, Refusal
+from scripts.kinds import BREAKPAD, GSYM
 from scripts.object.identity import identifier_of
-from scripts.object.symbol_files import BREAKPAD, READ_TWICE
+from scripts.object.symbol_files import READ_TWICE
 from scripts.telling import shown
 
 COUNTS = re.compile(rb"(?:yes\nanswers|no 46 answers) ([0-9]+) of ([0-9]+)\n")
@@ -66,16 +67,14 @@ class Comparison:
         base = self.given.base()
         if self.other.kind == BREAKPAD:
             self.base = self.image.program.load_address() if base is None else base
-            self.put_symbols()
-            return
-        if base is not None:
+        elif base is not None:
             self.notes.append("%s has a base of its own, so --base is passed over" % shown(self.other.name))
-        if self.other.data.size <= READ_TWICE:
+        self.put_symbols()
+        if self.other.kind == GSYM and not self.refused and self.other.data.size <= READ_TWICE:
             self.notes += self.older_readers()
-        self.other.put_table(self.given.mapped(self.other.spans()))
 
     def put_symbols(self):
-        """Makes the table of a symbol file of Breakpad, by the program linetab. If that refuses the file, the table has no record."""
+        """Makes the table of a symbol file, by the program linetab. If that refuses the file, the table has no record."""
         from scripts.object.tables import spans_in
 
         run = self.other.symbols(self.base)
@@ -93,10 +92,14 @@ class Comparison:
         return "" if SECTION_NO.match(run.no()) else self.refused
 
     def older_readers(self):
-        """A note if readers of GSYM files up to LLVM 17 answer otherwise."""
+        """A note if readers of GSYM files up to LLVM 17 answer otherwise, as far as that can be told."""
+        from scripts.object.tables import Unclear, spans_in
         from scripts.table.spans import first_difference
 
-        difference = first_difference(self.other.spans(), self.other.spans(first_row=True))
+        try:
+            difference = first_difference(spans_in(self.other.table().pieces()), self.given.mapped(self.other.older_spans()))
+        except (Refusal, Unclear):
+            return []
         if difference is None:
             return []
         address, here, there = difference

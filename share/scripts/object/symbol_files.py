@@ -138,20 +138,19 @@ class Other:
         except Refusal as refusal:
             raise Refusal(str(refusal), self.name) from None
 
-    def spans(self, first_row=False):
-        """The spans of a GSYM file, as they come."""
+    def older_spans(self):
+        """The spans of a GSYM file as readers up to LLVM 17 answer, as they come."""
         from scripts.table.gsym import spans_of
 
-        with self.named():
-            yield from spans_of(self.data.whole, first_row)
+        yield from spans_of(self.data.whole)
 
     def symbols(self, base):
-        """A run of the program linetab that prints the table of a symbol file of Breakpad, whose addresses count from `base`."""
+        """A run of the program linetab that prints the table of a symbol file. The addresses in one of Breakpad count from `base`."""
         with self.named():
-            if self.data.take(self.data.size - 1, 1) not in (b"\n", b"\r"):
+            if self.kind == BREAKPAD and self.data.take(self.data.size - 1, 1) not in (b"\n", b"\r"):
                 raise Refusal("its last line, %d, has no end: it is cut" % sum(1 for _ in self.data.lines()))
         self.rewind()
-        return Run(["symbols", "--quiet", "--base", "0x%x" % base, "--", self.opened_as])
+        return Run(["symbols", "--quiet", *(["--base", "0x%x" % base] if self.kind == BREAKPAD else []), "--", self.opened_as])
 
     def put_table(self, spans):
         """Writes a table of spans, which the program linetab opens in place of the symbol file."""

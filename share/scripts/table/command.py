@@ -21,7 +21,7 @@ def from_gsym(asked):
     from scripts.table.gsym import spans_of
 
     with source(asked) as file:
-        yield from spans_of(file.read(), first_row=asked.maker == "gsym-17")
+        yield from spans_of(file.read())
 
 
 def from_llvm_dwarfdump(asked):
@@ -62,7 +62,6 @@ def dialect_of(asked):
 
 
 MAKERS = {
-    "gsym": Maker(from_gsym),
     "gsym-17": Maker(from_gsym),
     "llvm-dwarfdump": Maker(from_llvm_dwarfdump, options=("dead", "skip_copies"), has_columns=lambda asked: True),
     "readelf": Maker(from_readelf, options=("dead", "skip_copies")),

@@ -1,4 +1,4 @@
-"""GSYM files of version 1, as LLVM's reader answers from them."""
+"""GSYM files of version 1, as readers up to LLVM 17 answer from them; linetab symbols prints what later ones do."""
 
 import itertools
 import struct
@@ -62,9 +62,7 @@ class Gsym:
                 self.paths.clear()
             folder, name = map(self.text, self.numbers("II", self.files + 8 * number))
             separator = b"\\" if b"\\" in folder and b"/" not in folder else b"/"
-            if folder and not folder.endswith(separator):
-                folder += separator
-            self.paths[number] = folder + name
+            self.paths[number] = folder + separator + name if folder else name
         return self.paths[number]
 
     def functions(self):
@@ -142,11 +140,11 @@ class Gsym:
             yield address, (path, line) if path else None
         yield high, None
 
-    def spans(self, first_row):
+    def spans(self):
         for low, high, start, info in self.functions():
             table = self.line_table(info)
             rows = self.rows_up_to(table, start, high) if table else ()
-            for row_low, row_high, answer in steps(first_rows(rows) if first_row else rows):
+            for row_low, row_high, answer in steps(first_rows(rows)):
                 if row_high > low:
                     yield max(low, row_low), row_high, answer
 
@@ -157,7 +155,7 @@ def number(table, at, signed=False):
 
 
 def first_rows(rows):
-    """Rows that answer at an address with several as the first does, and behind it as the last."""
+    """Rows that answer at an address with several as the first of them does, and behind it as the last."""
     for address, group in itertools.groupby(rows, key=FIRST):
         count = 0
         for count, (_, answer) in enumerate(group, 1):
@@ -167,10 +165,9 @@ def first_rows(rows):
             yield address + 1, answer
 
 
-def spans_of(data, first_row=False):
-    """The spans of a GSYM file, as they come; with `first_row` as readers up to LLVM 17 answer at an address with several rows: by the
-    first of them there, and by the last behind it."""
+def spans_of(data):
+    """The spans of a GSYM file, as they come."""
     try:
-        yield from Gsym(data).spans(first_row)
+        yield from Gsym(data).spans()
     except (struct.error, IndexError):
         raise Refusal(CUT) from None
