@@ -9,6 +9,8 @@ passed=0
 failed=0
 skipped=0
 tools=(bash awk)
+# Else Python keeps what it compiled beside the modules; and cut, where files may only be small.
+export PYTHONDONTWRITEBYTECODE=1
 make_room || exit 1
 work=$room
 

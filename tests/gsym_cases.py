@@ -3,17 +3,10 @@ with a slow reader, which was written from the documents and asks the rule of ea
 'N passed, M failed'."""
 
 import bisect
-import random
 import struct
-import subprocess
-import sys
-from concurrent.futures import ThreadPoolExecutor
 
-from checks import written
 from line_writer import leb, sleb
-
-TOP = (1 << 64) - 1
-HEADER = b"low,high,path,line\n"
+from symbol_cases import TOP, table_of, tried
 
 
 # ---- the reader
@@ -108,11 +101,11 @@ class Function:
         return self.size == 0 or address < self.start + self.size <= TOP
 
     def row_at(self, address):
-        """The last row before the first that lies above an address, of the last table, if each has one."""
+        """The last row before the first that lies above an address, of the last table, if each has one, of a file."""
         found = None
         for rows in self.tables:
             above = next((k for k, row in enumerate(rows) if row[0] > address), len(rows))
-            if above == 0:
+            if above == 0 or rows[above - 1][1] == 0:
                 return None
             found = rows[above - 1]
         return found
@@ -166,25 +159,16 @@ class Gsym:
         nearest = [function for function in self.functions if at and function.start == starts[at - 1]]
         function = next((function for function in nearest if function.holds(address)), None)
         row = function.row_at(address) if function and function.has_name else None
-        path = self.path(row[1]) if row and row[1] else b""
+        path = self.path(row[1]) if row else b""
         return (path, row[2]) if path else None
 
     def table(self):
         """The table of its answers."""
-        borders = {TOP}
+        borders = set()
         for function in self.functions:
             borders |= {function.start, function.start + function.size}
             borders.update(row[0] for rows in function.tables for row in rows)
-        borders = sorted(border for border in borders if border <= TOP)
-        spans = []
-        for low, high in zip(borders, borders[1:]):
-            answer = self.answer(low)
-            if answer and spans and spans[-1][1:] == [low, answer]:
-                spans[-1][1] = high
-            elif answer:
-                spans.append([low, high, answer])
-        return HEADER + b"".join(b"0x%x,0x%x,%s,%d\n" % (low, high, written(path), line)
-                                 for low, high, (path, line) in ((low, high, answer) for low, high, answer in map(tuple, spans)))
+        return table_of(borders, self.answer)
 
 
 def head_number(data, order, place, size):
@@ -262,37 +246,5 @@ def picked_file(picked):
     return out + b"".join(struct.pack(mark + "II", *file) for file in files) + strings + b"".join(infos)
 
 
-def broken(picked, data):
-    """The same with a byte changed, left out or put in, or cut."""
-    place, change = picked.randrange(len(data)), picked.randrange(5)
-    if change == 0:
-        return data[:place]
-    if change == 1:
-        return data[:place] + picked.randbytes(1) + data[place:]
-    if change == 2:
-        return data[:place] + data[place + 1:]
-    return data[:place] + bytes([picked.choice((0, 1, 127, 128, 255, picked.randrange(256)))]) + data[place + 1:]
-
-
-def case(program, data):
-    """Whether the program prints what it should."""
-    run = subprocess.run([program, "symbols", "--quiet", "-"], input=data, stdout=subprocess.PIPE, stderr=subprocess.PIPE)
-    return (run.stdout, run.returncode, run.stderr) == (*wanted(data), b"")
-
-
-def main():
-    program, count, picked = sys.argv[1], int(sys.argv[2]), random.Random(int(sys.argv[3]))
-    files = []
-    for _ in range(count):
-        data = picked_file(picked)
-        files.append(data if picked.randrange(4) == 0 else broken(picked, data))
-    with ThreadPoolExecutor() as pool:
-        found = list(pool.map(lambda data: case(program, data), files))
-    for data in [data for data, is_right in zip(files, found) if not is_right][:5]:
-        print("failed: %s" % data.hex())
-    print("%d passed, %d failed" % (found.count(True), found.count(False)))
-    sys.exit(found.count(False) > 0)
-
-
 if __name__ == "__main__":
-    main()
+    tried(picked_file, wanted)

@@ -7,8 +7,6 @@ cd "$(dirname "$(readlink -f -- "$0")")/.." || exit 1
 prefix=$work/prefix
 linetab=$prefix/bin/linetab
 hello=(examples/hello.debug_line examples/hello.csv --line-str examples/hello.debug_line_str)
-# Else Python keeps what it compiled beside the modules that are installed.
-export PYTHONDONTWRITEBYTECODE=1
 
 # The words of the help, and the options of one of them, or of none, each on a line, in order.
 words() {

@@ -1,9 +1,10 @@
 #!/usr/bin/env bash
-# linetab symbols: the answers of Breakpad's own reader from odd files, faults line by line, and bases.
+# linetab symbols: the answers of Breakpad's own reader from odd files, files at random, broken ones, faults line by line, and bases.
 cd "$(dirname "$(readlink -f -- "$0")")/.." || exit 1
 . tests/check.bash
 mkdir "$work/files" && tar xJf tests/resolver/files.tar.xz -C "$work/files" || exit 1
 expect 'odd files' 0 $'5446 passed, 0 failed\n' '' python3 tests/resolver.py "$program" "$work/files"
+expect 'files at random, and broken ones' 0 $'20000 passed, 0 failed\n' '' python3 tests/breakpad_cases.py "$program" 20000 1
 
 header=$'low,high,path,line\n'
 # says NAME STATUS STDOUT TEXT WORD..: of a file with MODULE and then this text, in the escapes of printf.

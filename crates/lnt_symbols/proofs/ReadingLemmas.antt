@@ -18,7 +18,7 @@ use Rattle.lnt_symbols.specs.declared.fault.SymbolFault.{SymbolFault}
 use Rattle.lnt_symbols.specs.declared.fault.SymbolFault.TheVariants.{Line}
 use Rattle.lnt_io.specs.declared.status.Status.{Status}
 use Rattle.lnt_io.specs.declared.status.Status.TheVariants.{Done}
-use Rattle.lnt_symbols.specs.SymbolTables.{Answers, answers_in_table, HasPrinted, loaded_at, symbol_answers}
+use Rattle.lnt_symbols.specs.SymbolTables.{Answers, answers_in_table, HasPrinted, loaded_at, breakpad_answers}
 use Rattle.lnt_symbols.proofs.FileLemmas.{faulty, first_refused, first_step, joined}
 use Rattle.lnt_symbols.proofs.TreeLemmas.{kept_of_ranges}
 
@@ -280,14 +280,14 @@ answers_are base (Ok records) = refl
 
 -- what a file answers, where these are its records
 pub answers_of_records : (base : ℕ) (bytes : List ℕ) (records : List RecordSaid) → records_of bytes ≡ Ok records
-    → Ok (loaded_at base (answer_at records)) ≡ symbol_answers base bytes
+    → Ok (loaded_at base (answer_at records)) ≡ breakpad_answers base bytes
 answers_of_records base bytes records is = ap (answers_from base) (sym is) ∙ answers_are base (records_of bytes)
 
 pub printed_so : {E : Type 0} (base : ℕ) (bytes : List ℕ) (records : List RecordSaid) (old new : Option (List ℕ)) (result : Result Status E)
     → records_of bytes ≡ Ok records → IfOk result (λ status. status ≡ Done)
     → IfOk result (λ _. HasTable (answers_in_table (loaded_at base (answer_at records))) old new)
-    → IfOk result (λ status. HasPrinted (symbol_answers base bytes) old new status)
+    → IfOk result (λ status. HasPrinted (breakpad_answers base bytes) old new status)
 printed_so base bytes records old new (Err stop) is done table = tt
 printed_so base bytes records old new (Ok status) is done table =
-    subst (λ s. HasPrinted (symbol_answers base bytes) old new s) (sym done)
+    subst (λ s. HasPrinted (breakpad_answers base bytes) old new s) (sym done)
     (subst (λ answers. HasPrinted answers old new Done) (answers_of_records base bytes records is) table)

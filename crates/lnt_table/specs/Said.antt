@@ -22,7 +22,8 @@ Says tell told answers p = option_map tell (answers p) ≡ Some told
 
 -- One of the sequences says it at p.
 abbrev pub OneSays : {S X : Type 0} → (S → List Span → Type 0) → (Answer → X) → X → List (SequenceSpans S) → Position → Position → Type 0
-OneSays {S} to_come tell told sequences at p = (k : ℕ) × (k < length sequences) × ((d : SequenceSpans S) (answers : Position → Option Answer)
+OneSays {S} to_come tell told sequences at p = (k : ℕ) × (k < length sequences)
+    × ((d : SequenceSpans S) (answers : Position → Option Answer)
     → AnswersFrom to_come (get_or sequences k d) at answers → Says tell told answers p)
 
 -- None of them does.
