@@ -15,6 +15,7 @@ LONGEST = 64  # bytes that are read of a section's name; those that are asked fo
 MOST = 1 << 16  # sections, load commands or units that are gone through
 DAMAGED = "its headers reach past the end of the file, or aren't whole: it is cut or damaged"
 CUT_MEANWHILE = "it was cut while it was read"
+NO_MEMORY = ("map segment", "allocate memory")  # what Python says where no memory is left for a module
 # Why there is no file at a place where one may be. Any other reason is the machine's.
 ABSENT = {errno.ENOENT, errno.ENOTDIR, errno.ELOOP, errno.ENAMETOOLONG, errno.EACCES}
 
@@ -45,9 +46,16 @@ def failure(text, error):
     return MemoryError() if error.errno == errno.ENOMEM else Failure(text % error.strerror)
 
 
+def is_of_memory(fault):
+    """Whether memory ran out, also for a module of Python's own that is imported late."""
+    if isinstance(fault, ImportError):
+        return any(text in str(fault) for text in NO_MEMORY)
+    return isinstance(fault, MemoryError) or isinstance(fault, OSError) and fault.errno == errno.ENOMEM
+
+
 def reason_of(fault):
     """Why nothing was answered, and the exit status."""
-    if isinstance(fault, MemoryError) or isinstance(fault, OSError) and fault.errno == errno.ENOMEM:
+    if is_of_memory(fault):
         return "out of memory", 4
     if isinstance(fault, (Refusal, Failure)):
         return str(fault), 3

@@ -39,6 +39,7 @@ class Reasons(unittest.TestCase):
         for fault, reason in (
             (MemoryError(), ("out of memory", 4)), (Refusal("it is cut"), ("it is cut", 3)), (Nothing("it has none"), ("it has none", 3)),
             (FileNotFoundError(2, "No such file"), ("cannot read it: No such file", 3)),
+            (ImportError("a.so: failed to map segment from shared object"), ("out of memory", 4)),
         ):
             self.assertEqual(command.reason_of(fault), reason)
         self.assertEqual(command.reason_of(ValueError("x"))[1], 3)
