@@ -2,6 +2,7 @@ mod DraftLemmas
 mod FileLemmas
 mod FlawLemmas
 mod JudgeLemmas
+mod LightLemmas
 mod LookupLemmas
 mod NamedLemmas
 mod PlaceLemmas

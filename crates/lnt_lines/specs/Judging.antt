@@ -2,7 +2,7 @@
 -- contracts speak of whole sections alone, the last definitions here.
 --     line, general   the bytes of .debug_line_str and of .debug_str
 --     dead            the address at which sequences of dead code begin, if one is given
-use Rattle.std.specs.Prelude.{◌≡◌, ℕ, List, [], ◌∷◌, ◌++◌, length, drop, Option}
+use Rattle.std.specs.Prelude.{◌≡◌, ℕ, ◌^◌, ◌<◌, List, [], ◌∷◌, ◌++◌, length, drop, MatchOption, Option}
 use Rattle.lnt_wire.specs.declared.fault.Fault.{Fault}
 use Rattle.lnt_unit.specs.Units.{BufferedUnit}
 use Rattle.lnt_header.specs.declared.unit_parts.UnitParts.{UnitParts}
@@ -10,14 +10,17 @@ use Rattle.lnt_unit.specs.BrokenUnits.{BrokenUnit}
 use Rattle.lnt_unit.specs.UnitBytes.{UnitBytesIn}
 use Rattle.lnt_unit.specs.Views.{HasCount, View}
 use Rattle.lnt_machine.specs.declared.fault.RunFault.{RunFault}
+use Rattle.lnt_machine.specs.declared.row.Row.{Row}
 use Rattle.lnt_machine.specs.Matrix.{rows, Runs}
 use Rattle.lnt_machine.specs.Walking.{KeepsProgram, KeptProgram}
 use Rattle.lnt_sequences.specs.declared.collected.Collected.{Collected}
-use Rattle.lnt_sequences.specs.declared.watch.Watch.{Watch}
 use Rattle.lnt_sequences.specs.Copies.{AreExtentsOf}
-use Rattle.lnt_sequences.specs.Sequences.{live_sequences, Placed}
-use Rattle.lnt_sequences.specs.Watching.{Collects, CollectsRows, HasSeenAll}
+use Rattle.lnt_sequences.specs.Sequences.{live_of, live_sequences, Placed, placed_rows}
+use Rattle.lnt_sequences.specs.Evidence.{IsFirstFall, IsFirstMissingFile}
+use Rattle.lnt_sequences.specs.Rules.{AreOrdered, HaveFiles}
+use Rattle.lnt_sequences.specs.Watching.{Collects, CollectsRows}
 use Rattle.lnt_lines.specs.declared.judge.SoundUnit.{SoundUnit}
+use Rattle.lnt_lines.specs.declared.run.Findings.{Findings}
 use Rattle.lnt_lines.specs.declared.no.No.TheVariants as no
 pub use Rattle.lnt_lines.specs.declared.refusal.Refusal.{Refusal}
 use Rattle.lnt_lines.specs.declared.refusal.Refusal.TheVariants as refusal
@@ -55,15 +58,24 @@ pub data IsRefusalOfRun (view : View) (unit : ℕ) (fault : RunFault) (refused :
   broken : (first : Fault) → BrokenUnit view.unit.order first view.unit.offset view.unit.bytes → refused ≡ refusal.No (no.Malformed first)
       → IsRefusalOfRun view unit fault refused
 
--- The program of the unit ran to its end, all of its rows were seen, and these are the places of its sequences.
-pub record HasRun (dead : Option ℕ) (view : View) (places : List ℕ) (old new : Collected) (watch : Watch) : Type 0 where
+-- The program of the unit ran to its end. This was found wrong with its rows, this is collected of them, and these are the places of its
+-- sequences.
+pub record HasRun (dead : Option ℕ) (view : View) (IsCollected : List Row → Type 0) (places : List ℕ) (found : Findings) : Type 0 where
   pub unit : UnitParts
   pub header_is : unit.header ≡ view.header
   pub spelled : UnitBytesIn view.unit.order unit view.unit.bytes
   pub runs : Runs unit
-  pub seen : HasSeenAll dead view.unit.offset (length unit.header.files) watch (rows unit)
-  pub collects : (sequences : List Placed) → Collects old sequences → CollectsRows dead view.unit.offset new sequences (rows unit)
+  pub few : length (rows unit) < 2 ^ 64
+  pub files : MatchOption found.missing (HaveFiles (length unit.header.files) (live_of dead (placed_rows view.unit.offset (rows unit))))
+      (IsFirstMissingFile dead (length unit.header.files) (placed_rows view.unit.offset (rows unit)))
+  pub ordered : MatchOption found.falls (AreOrdered (live_of dead (placed_rows view.unit.offset (rows unit))))
+      (IsFirstFall dead (placed_rows view.unit.offset (rows unit)))
+  pub collects : IsCollected (rows unit)
   pub kept : KeepsProgram (record { header = view.header; program = view.program; places = places }) unit
+
+-- Whatever was collected before, it now is with these rows of the unit at an offset, too.
+abbrev pub CollectsAlso : Option ℕ → ℕ → Collected → Collected → List Row → Type 0
+CollectsAlso dead unit old now rows = (sequences : List Placed) → Collects old sequences → CollectsRows dead unit now sequences rows
 
 -- what is kept of the unit in the buffer: its program extends to the end of the bytes
 abbrev pub kept_program_of : BufferedUnit → SoundUnit → KeptProgram
@@ -79,15 +91,14 @@ pub record IsJudgedSound (line general : List ℕ) (dead : Option ℕ) (buffer :
   pub collects : (units : List (ℕ × UnitParts)) → Collects old (live_sequences dead units)
       → Collects new (live_sequences dead (units ++ (buffer.offset, unit) ∷ []))
 
--- A unit whose program ran to its end, and whose rows the watch has seen, has this flaw; or it is valid.
-abbrev pub IsFlawedRun : List ℕ → List ℕ → View → Watch → No → Type 0
-IsFlawedRun line general view watch reason =
-    (dead : Option ℕ) (places : List ℕ) (old new : Collected) → HasRun dead view places old new watch
-    → IsUnitNo line general dead view.unit reason
+-- A unit whose program ran to its end, and with whose rows this was found wrong, has this flaw; or it is valid.
+abbrev pub IsFlawedRun : List ℕ → List ℕ → View → Findings → No → Type 0
+IsFlawedRun line general view found reason = (dead : Option ℕ) (places : List ℕ) (old new : Collected)
+    → HasRun dead view (CollectsAlso dead view.unit.offset old new) places found → IsUnitNo line general dead view.unit reason
 
-abbrev pub IsSoundRun : List ℕ → List ℕ → View → Watch → Type 0
-IsSoundRun line general view watch =
-    (dead : Option ℕ) (places : List ℕ) (old new : Collected) → HasRun dead view places old new watch
+abbrev pub IsSoundRun : List ℕ → List ℕ → View → Findings → Type 0
+IsSoundRun line general view found = (dead : Option ℕ) (places : List ℕ) (old new : Collected)
+    → HasRun dead view (CollectsAlso dead view.unit.offset old new) places found
     → IsJudgedSound line general dead view.unit old new (record { header = view.header; program = view.program; places = places })
 
 -- ---- the state of judging a section, unit by unit

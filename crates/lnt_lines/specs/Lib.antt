@@ -5,6 +5,7 @@ pub mod Good
 pub mod Indexed
 pub mod Judging
 pub mod Laws
+pub mod Light
 pub mod Nos
 pub mod Running
 pub mod Stepping

@@ -18,16 +18,16 @@ use Rattle.lnt_unit.specs.Views.{View, with_ops}
 use Rattle.lnt_unit.specs.ConversionSteps.{HasGiven}
 use Rattle.lnt_machine.specs.declared.fault.RunFault.{RunFault}
 use Rattle.lnt_machine.specs.declared.fault.RunFault.TheVariants.{Memory}
+use Rattle.lnt_machine.specs.declared.row.Row.{Row}
 use Rattle.lnt_machine.specs.Matrix.{IsRunFault, rows, sequences_of}
 use Rattle.lnt_machine.specs.Running.{RunState}
 use Rattle.lnt_machine.specs.Stepping.{HasPlaces, HasRan}
 use Rattle.lnt_sequences.specs.declared.collected.Collected.{Collected}
 use Rattle.lnt_sequences.specs.declared.watch.Watch.{Watch}
-use Rattle.lnt_sequences.specs.Sequences.{Placed}
-use Rattle.lnt_sequences.specs.Watching.{Collects, CollectsRows, HasSeen}
+use Rattle.lnt_sequences.specs.Watching.{HasSeen}
 use Rattle.lnt_lines.specs.declared.refusal.Refusal.TheVariants as refusal
 use Rattle.lnt_lines.specs.declared.run.Watched.{Watched}
-use Rattle.lnt_lines.specs.Judging.{IsRefusalOfRun, Refusal}
+use Rattle.lnt_lines.specs.Judging.{CollectsAlso, IsRefusalOfRun, Refusal}
 
 -- ---- why there are no lines of a section, by faults, stops and flaws of tables. No public contract speaks of it.
 
@@ -56,22 +56,22 @@ missing_no unit missing = FileNumber unit missing.row missing.file
 
 -- ---- what was run
 
--- What was run so far: the operations that the walk has given, whose rows the watch has seen. For each ended sequence the place where
--- it begins in the program is known.
-pub record RanSoFar (dead : Option ℕ) (view : View) (old now : Collected) (walk : Walk) (run : RunState) (watch : Watch)
+-- What was run so far: the operations that the walk has given, whose rows the watch has seen, and of which this is collected. For each
+-- ended sequence the place where it begins in the program is known.
+pub record RanSoFar (dead : Option ℕ) (view : View) (IsCollected : List Row → Type 0) (walk : Walk) (run : RunState) (watch : Watch)
     (places : List ℕ) (place : ℕ) : Type 0 where
   pub ops : List Op
   pub given : HasGiven view ops walk
   pub few : length ops + length walk.at.rest ≤ length view.program
   pub ran : HasRan view.header.numbers ops run
   pub seen : HasSeen dead view.unit.offset (length view.header.files) watch (rows (with_ops view ops))
-  pub collects : (sequences : List Placed) → Collects old sequences
-      → CollectsRows dead view.unit.offset now sequences (rows (with_ops view ops))
+  pub collects : IsCollected (rows (with_ops view ops))
   pub known : HasPlaces view.header.numbers view.program (length (sequences_of (rows (with_ops view ops)))) places place
 
 -- the same of a program that is run and watched
 abbrev pub RunsSoFar : Option ℕ → View → Watched → Collected → Collected → Walk → List ℕ → Type 0
-RunsSoFar dead view watched old now walk places = RanSoFar dead view old now walk watched.run watched.watch places watched.place
+RunsSoFar dead view watched old now walk places =
+    RanSoFar dead view (CollectsAlso dead view.unit.offset old now) walk watched.run watched.watch places watched.place
 
 -- the program, whose number of bytes is known, ends below 2^64
 abbrev pub HasRoom : View → Watched → Type 0

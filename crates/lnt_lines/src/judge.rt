@@ -6,11 +6,11 @@ ghost use Rattle.lnt_lines.specs.Running.{missing_no, table_no};
 
 use crate::no::No;
 use crate::refusal::Refusal;
-use crate::run::run_unit;
+use crate::run::{Findings, run_unit};
 use lnt_files::in_place::tables_fault;
 use lnt_files::{EntryTableFault, StringEnds};
 use lnt_header_bytes::KeptHeader;
-use lnt_sequences::{Collected, MissingFile, Watch};
+use lnt_sequences::{Collected, MissingFile};
 use lnt_unit::{UnitBuffer, UnitInPlace};
 use std::alloc::{AllocError, Global};
 
@@ -68,23 +68,23 @@ fn judge_run(
     ensures err { IfErr result (IsUnitRefusal ends.now.line ends.now.general dead view.now.unit) }
 {
     let mut places = Vec::new(alloc);
-    let watch = run_unit(view, unit, dead, collected, &mut places)?;
-    match flaw_of(view, unit, &watch, ends) {
+    let found = run_unit(alloc, view, unit, dead, collected, &mut places)?;
+    match flaw_of(view, unit, found, ends) {
         Some(no) => Err(Refusal::No(no)),
         None => Ok(places),
     }
 }
 
-// The first thing that is wrong with the unit at an offset, whose program ran to its end, and whose rows the watch has
-// seen. `None` if it is valid.
-fn flaw_of(view: &UnitInPlace<'_>, unit: u64, watch: &Watch, ends: &StringEnds<'_>) -> Option<No>
+// The first thing that is wrong with the unit at an offset, whose program ran to its end, and with whose rows this was found wrong.
+// `None` if it is valid.
+fn flaw_of(view: &UnitInPlace<'_>, unit: u64, found: Findings, ends: &StringEnds<'_>) -> Option<No>
     requires { unit ≡ view.now.unit.offset }
-    ensures { MatchOption result (IsSoundRun ends.now.line ends.now.general view.now watch.now)
-        (IsFlawedRun ends.now.line ends.now.general view.now watch.now) }
+    ensures { MatchOption result (IsSoundRun ends.now.line ends.now.general view.now found)
+        (IsFlawedRun ends.now.line ends.now.general view.now found) }
 {
     let tables = tables_no(unit, tables_fault(&view.header(), ends));
-    let missing = missing_no(unit, watch.missing_file());
-    let falls = falls_no(unit, watch.falls());
+    let missing = missing_no(unit, found.missing);
+    let falls = falls_no(unit, found.falls);
     tables.or(missing).or(falls)
 }
 

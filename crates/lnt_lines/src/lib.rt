@@ -20,6 +20,7 @@ mod gather;
 mod index;
 mod judge;
 pub mod laws;
+mod light;
 mod lines;
 mod lookups;
 mod no;

@@ -24,10 +24,13 @@ returns-else-is_err-clause-goes_on c dead view old walk walk' ran step room left
     let watched = c.args.self.now in
     let items : c.push.new.self.items ≡ c.args.places.now.items ++ watched.place ∷ [] = grind (arith, common_steps) in
     let here : watched.length - c.args.left ≡ length view.program - length walk'.at.rest = omega (arith, room.1, left) in
-    ran_row ran step c.in_ok-row.ensures.ok room.0 c.in-Some.is c.in_ok-see.ensures.seen c.in_ok-see.ensures.collects (λ e. (items, here))
+    ran_row ran step c.in_ok-row.ensures.ok room.0 c.in-Some.is c.in_ok-see.ensures.seen
+    (λ sequences k. c.in_ok-see.ensures.collects dead view.unit.offset _ _ sequences ran.seen (ran.collects sequences k))
+    (λ e. (items, here))
     (λ e. absurd (true≢false (sym c.if-row.true ∙ e)))
 
 pub returns-else-row-clause-goes_on : goal.returns-else-row-clause-goes_on
 returns-else-row-clause-goes_on c dead view old walk walk' ran step room left =
-    ran_row ran step c.in_ok-row.ensures.ok room.0 c.in-Some.is c.in_ok-see.ensures.seen c.in_ok-see.ensures.collects
+    ran_row ran step c.in_ok-row.ensures.ok room.0 c.in-Some.is c.in_ok-see.ensures.seen
+    (λ sequences k. c.in_ok-see.ensures.collects dead view.unit.offset _ _ sequences ran.seen (ran.collects sequences k))
     (λ e. absurd (true≢false (sym e ∙ c.if-row.false))) (λ e. (refl, refl))
