@@ -365,6 +365,11 @@ def symbol_files(count):
     return symbols(*names, b"FUNC 0 %x 0 f\n" % count, *(b"%x 1 1 %d\n" % (place, place) for place in range(count)))
 
 
+def symbol_names(count):
+    """The shortest FILE lines of so many numbers."""
+    return symbols(*(b"FILE %d a\n" % place for place in range(100_000, 100_000 + count)))
+
+
 def one_symbol_file(count):
     """FILE lines of one number."""
     return symbols(b"FILE 1 a\n" * count)
@@ -538,8 +543,8 @@ EVERY = {
     "many rows": (section(rows), 2_000_000),
     "many units": (section(units), 20_000),
 }
-# Symbol files. Where their lines have some ten bytes, more is held for each byte, and more again where line records don't rise.
-SHORT, FALLING = Growth(memory=Memory(times(5))), Growth(memory=Memory(times(8)))
+# Symbol files. Where line records have some ten bytes and don't rise, more is held for each byte.
+FALLING = Growth(memory=Memory(times(8)))
 SYMBOLS = {
     "line records of a long path": (symbol_lines, 20_000, Memory()),
     "line records of two long paths": (symbol_lines_of_two_files, 20_000, Memory()),
@@ -551,7 +556,8 @@ SYMBOLS = {
     "functions in falling order": (reversed_functions, 200_000, Growth()),
     "functions that overlap": (overlapping_functions, 200_000, Growth()),
     "functions in another": (overlapping_one, 200_000, Growth()),
-    "many files": (symbol_files, 200_000, SHORT),
+    "many files": (symbol_files, 200_000, Growth()),
+    "names of many files": (symbol_names, 400_000, Growth()),
     "many files of one number": (one_symbol_file, 400_000, Growth()),
     "a long line": (long_symbol_line, 8_000_000, Growth()),
     "a long name": (long_symbol_name, 4_000_000, Growth()),

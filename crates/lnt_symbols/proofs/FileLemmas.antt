@@ -1,14 +1,34 @@
 -- Records, read line by line.
-use Rattle.std.proofs.Common.{◌≡◌, ◌∙◌, ℕ, ◌+◌, Bool, true, false, ap, append_assoc, subst, sym, List, [], ◌∷◌, ◌++◌, refl}
-use Rattle.std.proofs.Common.{Ok, Err}
+use Rattle.std.proofs.Common.{◌≡◌, ◌∙◌, ℕ, ◌+◌, ◌-◌, Bool, true, false, ap, append_assoc, arith, subst, sym, List, [], ◌∷◌, ◌++◌, refl}
+use Rattle.std.proofs.Common.{drop, length, Ok, Err}
 use Rattle.std.specs.Prelude.{Result, not, if◌then◌else◌}
+use Rattle.std.proofs.lemmas.List.{drop-drop, length-append, length-drop}
+use lib.Seq.{drop-append-add}
 use Rattle.lnt_symbols.specs.BreakpadLines.{lines_of, record_of, RecordSaid, Said}
-use Rattle.lnt_symbols.specs.Stepping.{SaysFirst}
+use Rattle.lnt_symbols.specs.Stepping.{IsEnd, SaysFirst}
 use Rattle.lnt_symbols.specs.declared.fault.LineReason.{LineReason}
 use Rattle.lnt_symbols.specs.declared.fault.LineReason.TheVariants.{NoFunction}
 use Rattle.lnt_symbols.specs.BreakpadAnswers.{is_inside, may_follow, records_from}
 use Rattle.lnt_symbols.specs.declared.fault.SymbolFault.{SymbolFault}
 use Rattle.lnt_symbols.specs.declared.fault.SymbolFault.TheVariants.{Line}
+
+-- ---- what stands at the end of a text
+
+pub end_append : (front rest : List ℕ) → IsEnd (front ++ rest) rest
+end_append front rest =
+    let long : length (front ++ rest) ≡ length front + length rest = length-append front rest in
+    let at : length front + 0 ≡ length (front ++ rest) - length rest = omega (arith, long) in
+    sym (drop-append-add front rest 0) ∙ ap (λ k. drop k (front ++ rest)) at
+
+pub end_of_end : (text middle rest : List ℕ) → IsEnd text middle → IsEnd middle rest → IsEnd text rest
+end_of_end text middle rest h k =
+    let p : ℕ = length text - length middle in
+    let q : ℕ = length middle - length rest in
+    let first : length middle ≡ length text - p = ap length h ∙ length-drop p text in
+    let second : length rest ≡ length middle - q = ap length k ∙ length-drop q middle in
+    k ∙ (ap (drop q) h ∙ (drop-drop q p text ∙ ap (λ n. drop n text) (omega (arith, first, second))))
+
+-- ---- records
 
 -- records before those that are left
 abbrev pub joined : List RecordSaid → Result (List RecordSaid) SymbolFault → Result (List RecordSaid) SymbolFault

@@ -17,7 +17,8 @@ use Rattle.lnt_symbols.specs.BreakpadLines.{begins, cut, decimal, field, hexadec
 use Rattle.lnt_symbols.specs.BreakpadLines.{line_record_of, line_said, LineRecord, lines_from, lines_of, Range, range_of, record_of}
 use Rattle.lnt_symbols.specs.BreakpadLines.{Said, then_say}
 use Rattle.lnt_symbols.specs.declared.fault.LineReason.TheVariants.{NotARecord}
-use Rattle.lnt_symbols.specs.Stepping.{HasNumber, IsFirstLine, number_up_to}
+use Rattle.lnt_symbols.specs.Stepping.{HasNumber, IsEnd, IsFirstLine, number_up_to}
+use Rattle.lnt_symbols.proofs.FileLemmas.{end_append}
 
 -- ---- the digits of a number
 
@@ -102,12 +103,12 @@ room_for_decimal value d k lt small few =
 pub decimal_is_hexadecimal : (c : ℕ) → is_decimal_digit c ≡ true → is_hexadecimal_digit c ≡ true
 decimal_is_hexadecimal c e = rw e refl
 
-all_hexadecimal : (digits : List ℕ) → list_all is_decimal_digit digits ≡ true → list_all is_hexadecimal_digit digits ≡ true
-all_hexadecimal [] h = refl
-all_hexadecimal (c ∷ digits) h =
-    let parts = and_parts (is_decimal_digit c) (list_all is_decimal_digit digits) h in
-    and_both (is_hexadecimal_digit c) (list_all is_hexadecimal_digit digits) (decimal_is_hexadecimal c parts.0)
-    (all_hexadecimal digits parts.1)
+all_from : (p q : ℕ → Bool) → ((c : ℕ) → p c ≡ true → q c ≡ true) → (digits : List ℕ) → list_all p digits ≡ true
+    → list_all q digits ≡ true
+all_from p q f [] h = refl
+all_from p q f (c ∷ digits) h =
+    let parts = and_parts (p c) (list_all p digits) h in
+    and_both (q c) (list_all q digits) (f c parts.0) (all_from p q f digits parts.1)
 
 first_digit : (radix d : ℕ) → 0 * radix + d ≡ d
 first_digit radix d = omega arith
@@ -140,7 +141,7 @@ decimal_taken c stop text n rest d e lt =
     record {
       digits = c ∷ t.digits;
       joined = ap (λ xs. c ∷ xs) t.joined;
-      all = all_hexadecimal (c ∷ t.digits) all;
+      all = all_from is_decimal_digit is_hexadecimal_digit decimal_is_hexadecimal (c ∷ t.digits) all;
       value = grind (arith, common_steps, nat_tests, all, fits, value);
     }
 
@@ -160,10 +161,7 @@ digit_is_plain : (c : ℕ) → is_hexadecimal_digit c ≡ true → is_plain c �
 digit_is_plain c e = rw e refl
 
 digits_are_plain : (digits : List ℕ) → list_all is_hexadecimal_digit digits ≡ true → list_all is_plain digits ≡ true
-digits_are_plain [] h = refl
-digits_are_plain (c ∷ digits) h =
-    let parts = and_parts (is_hexadecimal_digit c) (list_all is_hexadecimal_digit digits) h in
-    and_both (is_plain c) (list_all is_plain digits) (digit_is_plain c parts.0) (digits_are_plain digits parts.1)
+digits_are_plain = all_from is_hexadecimal_digit is_plain digit_is_plain
 
 -- digits, a blank and more
 plain_more : (digits more : List ℕ) → list_all is_hexadecimal_digit digits ≡ true → list_all is_plain more ≡ true
@@ -277,6 +275,7 @@ first_line text line rest said e h says =
     let long : length text ≡ length line + length (10 ∷ rest) = ap length e ∙ length-append line (10 ∷ rest) in
     record {
       says = record { line = line; joined = ap lines_of e ∙ line_ends [] line rest h; says = says };
+      at_end = subst (λ t. IsEnd t rest) (sym (e ∙ sym (append_assoc line (10 ∷ []) rest))) (end_append (line ++ 10 ∷ []) rest);
       shorter = omega (arith, long);
     }
 

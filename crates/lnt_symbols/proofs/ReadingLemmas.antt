@@ -1,7 +1,7 @@
 -- What records come to, taken one by one.
 use Rattle.std.proofs.Common.{◌≡◌, ◌∙◌, ℕ, ◌+◌, Bool, true, false, List, [], ◌∷◌, ◌++◌, Option, Some, None, Ok, Err, refl, sym, ap}
 use Rattle.std.proofs.Common.{append_assoc, flat_map, map, subst}
-use Rattle.std.specs.Prelude.{◌==◌, if◌then◌else◌, IfOk, Result}
+use Rattle.std.specs.Prelude.{◌==◌, ◌-◌, if◌then◌else◌, drop, IfOk, IfSome, length, Result}
 use Rattle.std.specs.Borrow.{Bor}
 use Rattle.std.proofs.lemmas.List.{append-nil, map-append}
 use Rattle.lnt_symbols.specs.BreakpadLines.{LineRecord, lines_of, Range, RecordSaid, file_said, function_said, line_said, public_said}
@@ -9,7 +9,8 @@ use Rattle.lnt_symbols.specs.BreakpadLines.{nothing_said}
 use Rattle.lnt_symbols.specs.BreakpadAnswers.{answer_at, FunctionSaid, functions_of, is_inside, is_kept, kept_after, lines_before}
 use Rattle.lnt_symbols.specs.BreakpadAnswers.{may_follow, name_in, records_from, records_of}
 use Rattle.lnt_symbols.specs.Pieces.{cut_line, HasTable, pieces_in, pieces_of}
-use Rattle.lnt_symbols.specs.Stepping.{HasKept, HasTaken, lines_left, more_kept, name_or, pieces_after, SaysFirst, with_lines}
+use Rattle.lnt_symbols.specs.Stepping.{first_name, HasKept, HasTaken, IsEnd, lines_left, more_kept, name_from, name_or, name_said}
+use Rattle.lnt_symbols.specs.Stepping.{pieces_after, SaysAt, SaysFirst, with_lines}
 use Rattle.lnt_symbols.specs.declared.piece.Piece.{Piece}
 use Rattle.lnt_symbols.specs.declared.breakpad.reading.Reading.{Reading}
 use Rattle.lnt_symbols.specs.declared.fault.LineReason.{LineReason}
@@ -19,7 +20,7 @@ use Rattle.lnt_symbols.specs.declared.fault.SymbolFault.TheVariants.{Line}
 use Rattle.lnt_io.specs.declared.status.Status.{Status}
 use Rattle.lnt_io.specs.declared.status.Status.TheVariants.{Done}
 use Rattle.lnt_symbols.specs.SymbolTables.{Answers, answers_in_table, HasPrinted, loaded_at, breakpad_answers}
-use Rattle.lnt_symbols.proofs.FileLemmas.{faulty, first_refused, first_step, joined}
+use Rattle.lnt_symbols.proofs.FileLemmas.{end_of_end, faulty, first_refused, first_step, joined}
 use Rattle.lnt_symbols.proofs.TreeLemmas.{kept_of_ranges}
 
 -- ---- the pieces of all records
@@ -116,7 +117,7 @@ pieces_are base records = functions_cut base [] records
 -- ---- what was taken
 
 pub taken_none : (reading : Reading) → HasKept reading.functions [] → HasKept reading.lines [] → reading.function ≡ None
-    → reading.pieces.items ≡ [] → ((number : ℕ) (rest : List ℕ) → name_or reading.names.names number rest ≡ rest)
+    → reading.pieces.items ≡ [] → ((number : ℕ) (rest : List ℕ) → name_or reading.names number rest ≡ rest)
     → (base : ℕ) → HasTaken base [] reading
 taken_none reading functions lines function pieces names base = record {
   functions = [];
@@ -132,8 +133,8 @@ took : (base : ℕ) (done : List RecordSaid) (said : RecordSaid) (old new : Read
     (functions lines : List Range) → HasKept new.functions functions → HasKept new.lines lines
     → ((later : List RecordSaid) → old.pieces.items ++ pieces_after base h.functions (with_lines old.function h.lines) (said ∷ later)
     ≡ new.pieces.items ++ pieces_after base functions (with_lines new.function lines) later)
-    → ((later : List RecordSaid) (number : ℕ) → name_or new.names.names number (name_in later number)
-    ≡ name_or old.names.names number (name_in (said ∷ later) number))
+    → ((later : List RecordSaid) (number : ℕ) → name_or new.names number (name_in later number)
+    ≡ name_or old.names number (name_in (said ∷ later) number))
     → HasTaken base (done ++ said ∷ []) new
 took base done said old new h functions lines kept_functions kept_lines pieces names = record {
   functions = functions;
@@ -163,15 +164,21 @@ took_public base done old new functions lines function pieces names h =
     took base done public_said old new h h.functions h.lines (subst (λ f. HasKept f h.functions) (sym functions) h.kept_functions)
     (subst (λ l. HasKept l h.lines) (sym lines) h.kept_lines) (λ later. rw function (rw pieces refl)) (λ later number. rw names refl)
 
-pub took_file : (base : ℕ) (done : List RecordSaid) (n : ℕ) (name : List ℕ) (old new : Reading) → new.functions ≡ old.functions
+name_there : (file : List ℕ) (place n : ℕ) (name : List ℕ) → SaysAt file place (file_said n name) → name_from file place ≡ name
+name_there file place n name (lines, s) = ap first_name s.joined ∙ ap name_said s.says
+
+pub took_file : (base : ℕ) (done : List RecordSaid) (n place : ℕ) (name : List ℕ) (old new : Reading) → new.functions ≡ old.functions
     → new.lines ≡ old.lines → new.function ≡ old.function → new.pieces ≡ old.pieces
-    → ((other : ℕ) (rest : List ℕ) → name_or new.names.names other rest
-    ≡ name_or old.names.names other (if n == other then name else rest))
-    → HasTaken base done old → HasTaken base (done ++ file_said n name ∷ []) new
-took_file base done n name old new functions lines function pieces names h =
+    → ((other : ℕ) (rest : List ℕ) → name_or new.names other rest
+    ≡ name_or old.names other (if n == other then name_from old.names.file.now place else rest))
+    → HasTaken base done old → SaysAt old.names.file.now place (file_said n name)
+    → HasTaken base (done ++ file_said n name ∷ []) new
+took_file base done n place name old new functions lines function pieces names h says =
     took base done (file_said n name) old new h h.functions h.lines (subst (λ f. HasKept f h.functions) (sym functions) h.kept_functions)
     (subst (λ l. HasKept l h.lines) (sym lines) h.kept_lines) (λ later. rw function (rw pieces refl))
-    (λ later number. names number (name_in later number))
+    (λ later number. subst (λ x. name_or new.names number (name_in later number)
+    ≡ name_or old.names number (if n == number then x else name_in later number))
+    (name_there old.names.file.now place n name says) (names number (name_in later number)))
 
 pub took_function : (base : ℕ) (done : List RecordSaid) (range : Range) (old new : Reading) (h : HasTaken base done old)
     → HasKept new.functions (more_kept h.functions range) → HasKept new.lines []
@@ -210,44 +217,63 @@ taken_pieces base done reading h =
     sym (append-nil reading.pieces.items) ∙ (sym (h.pieces []) ∙ ap (pieces_of base) (append-nil done))
 
 pub taken_names : (base : ℕ) (done : List RecordSaid) (reading : Reading) → HasTaken base done reading
-    → (number : ℕ) → name_or reading.names.names number [] ≡ name_in done number
+    → (number : ℕ) → name_or reading.names number [] ≡ name_in done number
 taken_names base done reading h number = h.names [] number ∙ ap (λ rs. name_in rs number) (append-nil done)
 
 -- ---- a file, as far as it's read
 
--- The lines before what is left were read, the last of which has this number, and their records were taken.
+-- The lines before what is left were read, the last of which has this number, and their records were taken. What is left stands at the end.
 pub record HasRead (base : ℕ) (bytes : List ℕ) (number : ℕ) (inside : Bool) (rest : Option (Bor (List ℕ))) (reading : Reading) : Type 0
   where
     pub done : List RecordSaid
     pub read : records_of bytes ≡ joined done (records_from (number + 1) inside (lines_left rest))
     pub taken : HasTaken base done reading
+    pub at_end : IfSome rest (λ rest. IsEnd bytes rest.now)
+    pub file : reading.names.file.now ≡ bytes
 
 joined_none : (r : Result (List RecordSaid) SymbolFault) → r ≡ joined [] r
 joined_none (Err fault) = refl
 joined_none (Ok records) = refl
 
 pub read_first : (base : ℕ) (bytes : List ℕ) (rest : Option (Bor (List ℕ))) (reading : Reading)
-    → records_of bytes ≡ records_from 2 false (lines_left rest) → HasTaken base [] reading → HasRead base bytes 1 false rest reading
-read_first base bytes rest reading read taken = record {
+    → records_of bytes ≡ records_from 2 false (lines_left rest) → HasTaken base [] reading
+    → IfSome rest (λ rest. IsEnd bytes rest.now) → reading.names.file.now ≡ bytes → HasRead base bytes 1 false rest reading
+read_first base bytes rest reading read taken at_end file = record {
   done = [];
   read = read ∙ joined_none (records_from 2 false (lines_left rest));
   taken = taken;
+  at_end = at_end;
+  file = file;
 }
+
+ends_on : (bytes left : List ℕ) (rest : Option (Bor (List ℕ))) → IsEnd bytes left → IfSome rest (λ rest. IsEnd left rest.now)
+    → IfSome rest (λ rest. IsEnd bytes rest.now)
+ends_on bytes left None h k = tt
+ends_on bytes left (Some rest) h k = end_of_end bytes left rest.now h k
 
 pub read_more : (base : ℕ) (bytes : List ℕ) (number : ℕ) (inside goes_on : Bool) (left : Bor (List ℕ))
     (old_rest rest : Option (Bor (List ℕ))) (said : RecordSaid) (old new : Reading)
     → HasRead base bytes number inside old_rest old → old_rest ≡ Some left → SaysFirst left.now (Ok said) (lines_left rest)
-    → may_follow inside said ≡ true → goes_on ≡ is_inside inside said
-    → ((done : List RecordSaid) → HasTaken base done old → HasTaken base (done ++ said ∷ []) new)
+    → may_follow inside said ≡ true → goes_on ≡ is_inside inside said → IfSome rest (λ rest. IsEnd left.now rest.now)
+    → new.names.file ≡ old.names.file
+    → ((done : List RecordSaid) → HasTaken base done old → SaysAt old.names.file.now (length bytes - length left.now) said
+    → HasTaken base (done ++ said ∷ []) new)
     → HasRead base bytes (number + 1) goes_on rest new
-read_more base bytes number inside goes_on left old_rest rest said old new h is says follows goes takes =
+read_more base bytes number inside goes_on left old_rest rest said old new h is says follows goes at_end file takes =
     let read : records_of bytes ≡ joined h.done (records_from (number + 1) inside (lines_of left.now)) =
     subst (λ (r : Option (Bor (List ℕ))). records_of bytes ≡ joined h.done (records_from (number + 1) inside (lines_left r))) is h.read in
+    let left_at : IsEnd bytes left.now = subst (λ (r : Option (Bor (List ℕ))). IfSome r (λ r. IsEnd bytes r.now)) is h.at_end in
     record {
       done = h.done ++ said ∷ [];
       read = subst (λ b. records_of bytes ≡ joined (h.done ++ said ∷ []) (records_from (number + 1 + 1) b (lines_left rest))) (sym goes)
           (read ∙ first_step h.done (number + 1) inside left.now (lines_left rest) said says follows);
-      taken = takes h.done h.taken;
+      taken = takes h.done h.taken (
+        lines_left rest,
+        subst (λ (t : List ℕ). SaysFirst t (Ok said) (lines_left rest))
+            (left_at ∙ sym (ap (drop (length bytes - length left.now)) h.file)) says,
+      );
+      at_end = ends_on bytes left.now rest left_at at_end;
+      file = ap (λ f. f.now) file ∙ h.file;
     }
 
 pub read_faulty : (base : ℕ) (bytes : List ℕ) (number : ℕ) (inside : Bool) (left : Bor (List ℕ)) (lines : List (List ℕ))

@@ -1,6 +1,6 @@
 -- What the values of the code say.
-use Rattle.std.specs.Prelude.{◌≡◌, ◌+◌, ◌-◌, ◌*◌, ◌<◌, ◌≤◌, ◌==◌, nat_lt, ℕ, Bool, true, if◌then◌else◌, List, [], ◌∷◌, ◌++◌, length, Option}
-use Rattle.std.specs.Prelude.{Some, None, Ok, Err, IsSome, Contains}
+use Rattle.std.specs.Prelude.{◌≡◌, ◌+◌, ◌-◌, ◌*◌, ◌^◌, ◌<◌, ◌≤◌, ◌==◌, nat_lt, ℕ, Bool, true, if◌then◌else◌, List, [], ◌∷◌, ◌++◌, drop}
+use Rattle.std.specs.Prelude.{length, Option, Some, None, Ok, Err, IsSome, Contains}
 use Rattle.std.specs.BTreeMap.{BTreeMap, get}
 use Rattle.std.specs.List.{AllByRecursion, list_all}
 use Rattle.std.specs.Ordering.{nat_cmp}
@@ -12,6 +12,7 @@ use Rattle.lnt_symbols.specs.BreakpadAnswers.{end_of, is_kept, kept, name_in, re
 use Rattle.lnt_symbols.specs.declared.breakpad.file.ReadingStop.{ReadingStop}
 use Rattle.lnt_symbols.specs.declared.breakpad.file.ReadingStop.TheVariants.{Fault, Memory}
 use Rattle.lnt_symbols.specs.declared.breakpad.kept.KeptRanges.{KeptRanges}
+use Rattle.lnt_symbols.specs.declared.breakpad.names.Names.{Names}
 use Rattle.lnt_symbols.specs.declared.breakpad.reading.Reading.{Reading}
 use Rattle.lnt_symbols.specs.declared.breakpad.record.Record.{Record}
 use Rattle.lnt_symbols.specs.declared.breakpad.record.Record.TheVariants.{File, Function, Line, Public, Nothing}
@@ -80,16 +81,32 @@ HasKept ranges those = AreThose ranges.rising.items ranges.last ranges.tree thos
 
 -- ---- names
 
--- a name that is known, else another
-abbrev pub known_or : Option (Bor (List ℕ)) → List ℕ → List ℕ
-known_or None rest = rest
-known_or (Some name) rest = name.now
+-- the name of a file that is said, if one is
+abbrev pub name_said : Said RecordSaid → List ℕ
+name_said (Ok (file_said number name)) = name
+name_said said = []
 
-abbrev pub name_or : BTreeMap ℕ (Bor (List ℕ)) → ℕ → List ℕ → List ℕ
-name_or names number rest = known_or (get nat_cmp names number) rest
+-- the name that the first of these lines says
+abbrev pub first_name : List (List ℕ) → List ℕ
+first_name [] = []
+first_name (line ∷ lines) = name_said (record_of line)
+
+-- the name that the line says which begins at a place of a file
+abbrev pub name_from : List ℕ → ℕ → List ℕ
+name_from file place = first_name (lines_of (drop place file))
+
+-- the name from a place, if there is one, else another
+abbrev pub known_or : List ℕ → Option ℕ → List ℕ → List ℕ
+known_or file None rest = rest
+known_or file (Some place) rest = name_from file place
+
+-- the name with a number, which has 32 bits, else another
+abbrev pub name_or : Names → ℕ → List ℕ → List ℕ
+name_or names number rest =
+    if nat_lt number (2 ^ 32) then known_or names.file.now (get nat_cmp names.places number) rest else rest
 
 -- the name with a number, or nothing
-abbrev pub name_at : BTreeMap ℕ (Bor (List ℕ)) → ℕ → List ℕ
+abbrev pub name_at : Names → ℕ → List ℕ
 name_at names number = name_or names number []
 
 -- ---- records, taken one by one
@@ -124,10 +141,14 @@ pub record HasTaken (base : ℕ) (done : List RecordSaid) (reading : Reading) : 
   pub kept_lines : HasKept reading.lines lines
   pub pieces : (later : List RecordSaid) → pieces_of base (done ++ later)
       ≡ reading.pieces.items ++ pieces_after base functions (with_lines reading.function lines) later
-  pub names : (later : List RecordSaid) (number : ℕ) → name_or reading.names.names number (name_in later number)
+  pub names : (later : List RecordSaid) (number : ℕ) → name_or reading.names number (name_in later number)
       ≡ name_in (done ++ later) number
 
 -- ---- the first line of a text
+
+-- The rest stands at the end of the text.
+abbrev pub IsEnd : List ℕ → List ℕ → Type 0
+IsEnd text rest = rest ≡ drop (length text - length rest) text
 
 -- The first line says this, and these lines follow.
 pub record SaysFirst (text : List ℕ) (said : Said RecordSaid) (lines : List (List ℕ)) : Type 0 where
@@ -135,9 +156,14 @@ pub record SaysFirst (text : List ℕ) (said : Said RecordSaid) (lines : List (L
   pub joined : lines_of text ≡ line ∷ lines
   pub says : record_of line ≡ said
 
+-- The line that begins at a place of a file says this.
+abbrev pub SaysAt : List ℕ → ℕ → RecordSaid → Type 0
+SaysAt file place said = (lines : List (List ℕ)) × SaysFirst (drop place file) (Ok said) lines
+
 -- The first line is a line record that says this, with an end, and the rest follows.
 pub record IsFirstLine (text : List ℕ) (said : LineRecord) (rest : List ℕ) : Type 0 where
   pub says : SaysFirst text (Ok (line_said said)) (lines_of rest)
+  pub at_end : IsEnd text rest
   pub shorter : length rest < length text
 
 -- The text begins with digits of a number, and then come a byte and the rest.

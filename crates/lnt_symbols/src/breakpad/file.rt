@@ -1,6 +1,6 @@
 //! Reads the records of a Breakpad file.
 ghost use Rattle.std.specs.Prelude.{◌≡◌, ◌<◌, ◌≤◌, ℕ, List, [], ◌∷◌, ◌++◌, true, false, length, Ok, Err, IfOk, IfErr, IfSome, MatchResult};
-ghost use Rattle.lnt_symbols.specs.Stepping.{HasTaken, IsStop, SaysFirst, left_length, lines_left, said_of};
+ghost use Rattle.lnt_symbols.specs.Stepping.{HasTaken, IsEnd, IsStop, SaysFirst, left_length, lines_left, said_of};
 ghost use Rattle.lnt_symbols.specs.BreakpadLines.{lines_from, lines_of, RecordSaid};
 ghost use Rattle.lnt_symbols.specs.declared.breakpad.file.ReadingStop.TheVariants.{Fault};
 ghost use Rattle.lnt_symbols.specs.declared.fault.SymbolFault.TheVariants.{Line};
@@ -33,11 +33,12 @@ pub(crate) fn read_file<'a>(
     ensures err { IfErr result (IsStop bytes.now) }
 {
     let mut rest = first_line(bytes)?;
-    let mut reading = Reading::new(alloc);
+    let mut reading = Reading::new(alloc, bytes);
     let mut number = 1;
     let mut inside = false;
     while let Some(left) = rest {
         number += 1;
+        let place = bytes.len() - left.len();
         let (said, after) = match next_record(left) {
             Ok(found) => found,
             Err(reason) => return Err(fault_in(number, reason)),
@@ -46,7 +47,7 @@ pub(crate) fn read_file<'a>(
             return Err(fault_in(number, LineReason::NoFunction));
         }
         inside = is_inside(inside, &said);
-        match reading.take(alloc, said, base) {
+        match reading.take(alloc, said, place, base) {
             Ok(()) => rest = after,
             Err(AllocError) => return Err(ReadingStop::Memory),
         }
@@ -58,6 +59,7 @@ pub(crate) fn read_file<'a>(
 fn first_line<'a>(bytes: &'a [u8]) -> Result<Option<&'a [u8]>, ReadingStop>
     ensures ok { IfOk result (λ rest. records_of bytes.now ≡ records_from 2 false (lines_left rest)) }
     ensures err { IfErr result (IsStop bytes.now) }
+    ensures at_end { IfOk result (λ rest. IfSome rest (λ rest. IsEnd bytes.now rest.now)) }
     ensures shorter { IfOk result (λ rest. left_length rest ≤ length bytes.now) }
 {
     let (line, rest) = next_line(bytes);
@@ -75,6 +77,7 @@ fn first_line<'a>(bytes: &'a [u8]) -> Result<Option<&'a [u8]>, ReadingStop>
 fn next_record<'a>(bytes: &'a [u8]) -> Result<(Record<'a>, Option<&'a [u8]>), LineReason>
     ensures said { MatchResult result (λ f. SaysFirst bytes.now (Ok (said_of f.0)) (lines_left f.1))
         (λ reason. (lines : List (List ℕ)) × SaysFirst bytes.now (Err reason) lines) }
+    ensures at_end { IfOk result (λ f. IfSome f.1 (λ rest. IsEnd bytes.now rest.now)) }
     ensures shorter { IfOk result (λ f. IfSome f.1 (λ rest. length rest.now < length bytes.now)) }
 {
     if let Some((line, rest)) = plain_line(bytes) {
@@ -88,6 +91,7 @@ fn next_record<'a>(bytes: &'a [u8]) -> Result<(Record<'a>, Option<&'a [u8]>), Li
 fn any_record<'a>(bytes: &'a [u8]) -> Result<(Record<'a>, Option<&'a [u8]>), LineReason>
     ensures said { MatchResult result (λ f. SaysFirst bytes.now (Ok (said_of f.0)) (lines_left f.1))
         (λ reason. (lines : List (List ℕ)) × SaysFirst bytes.now (Err reason) lines) }
+    ensures at_end { IfOk result (λ f. IfSome f.1 (λ rest. IsEnd bytes.now rest.now)) }
     ensures shorter { IfOk result (λ f. IfSome f.1 (λ rest. length rest.now < length bytes.now)) }
 {
     let (line, rest) = next_line(bytes);
@@ -96,8 +100,9 @@ fn any_record<'a>(bytes: &'a [u8]) -> Result<(Record<'a>, Option<&'a [u8]>), Lin
 }
 
 // The first line, and what stands after its end, if it has one.
-fn next_line<'a>(bytes: &'a [u8]) -> (&'a [u8], Option<&'a [u8]>)
+pub(crate) fn next_line<'a>(bytes: &'a [u8]) -> (&'a [u8], Option<&'a [u8]>)
     ensures lines { lines_of bytes.now ≡ result.0.now ∷ lines_left result.1 }
+    ensures at_end { IfSome result.1 (λ rest. IsEnd bytes.now rest.now) }
     ensures shorter { IfSome result.1 (λ rest. length rest.now < length bytes.now) }
 {
     for i in 0..bytes.len() {
@@ -115,6 +120,7 @@ fn next_line<'a>(bytes: &'a [u8]) -> (&'a [u8], Option<&'a [u8]>)
 // What stands after a carriage return: without the line feed that belongs to it.
 fn after_return<'a>(rest: &'a [u8]) -> &'a [u8]
     ensures lines { lines_from true [] rest.now ≡ lines_of result.now }
+    ensures at_end { IsEnd rest.now result.now }
     ensures length { length result.now ≤ length rest.now }
 {
     if !rest.is_empty() && rest[0] == b'\n' {

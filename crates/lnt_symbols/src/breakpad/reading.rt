@@ -1,5 +1,5 @@
 //! What the records of a file come to, taken one by one: names, and the pieces of kept line records in their kept functions.
-ghost use Rattle.std.specs.Prelude.{◌++◌, ◌∷◌, [], ℕ, List, OnOk};
+ghost use Rattle.std.specs.Prelude.{◌≡◌, ◌++◌, ◌∷◌, [], ℕ, List, OnOk};
 ghost use Rattle.lnt_symbols.specs.BreakpadLines.{RecordSaid, function_said, line_said};
 ghost use Rattle.lnt_symbols.specs.Stepping.{said_of};
 
@@ -26,15 +26,16 @@ pub(crate) struct Reading<'a> {
 }
 
 impl<'a> Reading<'a> {
-    ghost use Rattle.lnt_symbols.specs.Stepping.{HasTaken};
+    ghost use Rattle.lnt_symbols.specs.Stepping.{HasTaken, SaysAt};
 
-    /// No record yet. It takes no memory.
+    /// No record of this file yet. It takes no memory.
     #[tactic(auto, using(crate::proofs::ReadingLemmas::taken_none))]
-    pub(crate) fn new(alloc: Global) -> Reading<'a>
-        ensures { (base : ℕ) → HasTaken base [] result }
+    pub(crate) fn new(alloc: Global, file: &'a [u8]) -> Reading<'a>
+        ensures file { result.names.file ≡ file.entry }
+        ensures taken { (base : ℕ) → HasTaken base [] result }
     {
         Reading {
-            names: Names::new(alloc),
+            names: Names::new(alloc, file),
             functions: KeptRanges::new(alloc),
             function: None,
             lines: KeptRanges::new(alloc),
@@ -42,21 +43,23 @@ impl<'a> Reading<'a> {
         }
     }
 
-    /// Takes the next record of a file whose address 0 is loaded at `base`.
+    /// Takes the next record, which the line at this place says, of a file whose address 0 is loaded at `base`.
     #[inline(always)]
     pub(crate) fn take(
         &mut self,
         alloc: Global,
         said: Record<'a>,
+        place: usize,
         base: u64,
     ) -> Result<(), AllocError>
-        ensures { (done : List RecordSaid) → HasTaken base done self.old
+        ensures file { self.new.names.file ≡ self.old.names.file }
+        ensures taken { (done : List RecordSaid) → HasTaken base done self.old → SaysAt self.old.names.file.now place (said_of said.entry)
             → OnOk result (HasTaken base (done ++ said_of said.entry ∷ []) self.new) }
     {
         match said {
             Record::Line(line) => self.take_line(alloc, line, base),
             Record::Function(range) => self.take_function(alloc, range),
-            Record::File(number, name) => self.names.put_first(number as u64, name),
+            Record::File(number, _) => self.names.put_first(number, place),
             Record::Public => {
                 self.function = None;
                 Ok(())
@@ -68,7 +71,8 @@ impl<'a> Reading<'a> {
     // Takes a line record.
     #[inline(always)]
     fn take_line(&mut self, alloc: Global, line: LineRecord, base: u64) -> Result<(), AllocError>
-        ensures { (done : List RecordSaid) → HasTaken base done self.old
+        ensures names { self.new.names ≡ self.old.names }
+        ensures taken { (done : List RecordSaid) → HasTaken base done self.old
             → OnOk result (HasTaken base (done ++ line_said line ∷ []) self.new) }
     {
         let Some(function) = self.function else {
@@ -82,7 +86,8 @@ impl<'a> Reading<'a> {
 
     // Takes a function.
     fn take_function(&mut self, alloc: Global, range: Range) -> Result<(), AllocError>
-        ensures { (base : ℕ) (done : List RecordSaid) → HasTaken base done self.old
+        ensures names { self.new.names ≡ self.old.names }
+        ensures taken { (base : ℕ) (done : List RecordSaid) → HasTaken base done self.old
             → OnOk result (HasTaken base (done ++ function_said range ∷ []) self.new) }
     {
         self.lines.clear();

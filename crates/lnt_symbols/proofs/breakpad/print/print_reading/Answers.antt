@@ -11,13 +11,13 @@ pub returns-in_err-write_pieces-clause-begun : goal.returns-in_err-write_pieces-
 returns-in_err-write_pieces-clause-begun g c = λ records h.
     so_stopped c.from_residual.result _
     (inr (c.in_err-write_pieces.ensures.begun (answers_in_table (loaded_at c.args.base (answer_at records)))
-    (answers_of (λ n. name_at c.args.reading.names.names n) c.args.base records c.as_mut_slice.result.now
+    (answers_of (λ n. name_at c.args.reading.names n) c.args.base records c.as_mut_slice.result.now
     (taken_names c.args.base records c.args.reading h)
     (c.as_mut_slice.ensures.value ∙ taken_pieces c.args.base records c.args.reading h))))
 
 pub returns-clause-table : goal.returns-clause-table
 returns-clause-table g c = λ records h.
     c.in_ok-write_pieces.ensures.table (answers_in_table (loaded_at c.args.base (answer_at records)))
-    (answers_of (λ n. name_at c.args.reading.names.names n) c.args.base records c.as_mut_slice.result.now
+    (answers_of (λ n. name_at c.args.reading.names n) c.args.base records c.as_mut_slice.result.now
     (taken_names c.args.base records c.args.reading h)
     (c.as_mut_slice.ensures.value ∙ taken_pieces c.args.base records c.args.reading h))
