@@ -11,4 +11,4 @@ mod print;
 mod table;
 
 pub use fault::{LineReason, SymbolFault};
-pub use print::{is_gsym, print_symbols};
+pub use print::print_symbols;

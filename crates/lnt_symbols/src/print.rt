@@ -1,7 +1,6 @@
 //! Prints the address table of a symbol file.
-ghost use Rattle.std.specs.Prelude.{◌≡◌, ◌-◌, ◌^◌, ◌<◌, ◌⊎◌, IfErr, IfOk, IfSome, OnErr, IsErrOf, is_some};
+ghost use Rattle.std.specs.Prelude.{◌-◌, ◌^◌, ◌<◌, ◌⊎◌, IfErr, IfOk, IfSome, OnErr, IsErrOf};
 ghost use Rattle.std.specs.Io.KnownBytes.{Keeps};
-ghost use Rattle.lnt_gsym.specs.GsymFiles.{order_of};
 ghost use Rattle.lnt_io.specs.IoStops.{IsPrinting};
 ghost use Rattle.lnt_io.specs.Stopping.{CountsFailure, IsTooLongOn};
 ghost use Rattle.lnt_symbols.specs.SymbolTables.{BeginsPrinted, HasPrinted, symbol_answers};
@@ -56,11 +55,4 @@ fn print_bytes<W: Write>(
         Some(order) => print_gsym(alloc, order, bytes, out),
         None => print_breakpad(alloc, bytes, base, out),
     }
-}
-
-/// Whether the bytes of a file begin as those of a GSYM file do: with the number 0x4753594d, in either byte order.
-pub fn is_gsym(bytes: &[u8]) -> bool
-    ensures { result ≡ is_some (order_of bytes.now) }
-{
-    order_of(bytes).is_some()
 }
