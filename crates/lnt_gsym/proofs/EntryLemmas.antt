@@ -1,17 +1,12 @@
 -- The entries of a file, one after another.
-use Rattle.std.proofs.Common.{◌≡◌, ◌∙◌, ℕ, zero, suc, ◌+◌, ◌-◌, ◌*◌, ◌^◌, ◌<◌, ◌≤◌, Bool, true, false, List, [], ◌∷◌, length, drop, Some}
-use Rattle.std.proofs.Common.{None}
-use Rattle.std.proofs.Common.{refl, sym, ap, arith, length-drop, subst}
-use Rattle.std.specs.Prelude.{nat_lt, Result, Ok, Err}
-use Rattle.std.proofs.lemmas.Bool.Decides.{nat_tests}
+use Rattle.std.proofs.Common.{◌≡◌, ◌∙◌, ℕ, zero, suc, ◌+◌, ◌-◌, ◌*◌, ◌^◌, ◌<◌, ◌≤◌, true, false, List, [], ◌∷◌, length, drop}
+use Rattle.std.proofs.Common.{refl, sym, ap, arith, length-drop}
+use Rattle.std.specs.Prelude.{nat_lt}
 use Rattle.lnt_wire.specs.FirstValues.{first_number}
 use Rattle.lnt_wire.specs.declared.format.Order.{Order}
-use Rattle.lnt_gsym.specs.GsymFiles.{at_place, functions_of, numbers_of}
-use Rattle.lnt_gsym.specs.GsymFields.{then_read}
-use Rattle.lnt_gsym.specs.GsymInfos.{Function, function_of}
-use Rattle.lnt_gsym.specs.GsymSpans.{less, next_above}
-use Rattle.lnt_gsym.specs.Walking.{EntriesSaid, GivesEntry, next_start}
-use Rattle.lnt_gsym.specs.declared.fault.GsymFault.{GsymFault}
+use Rattle.lnt_gsym.specs.GsymFiles.{numbers_of}
+use Rattle.lnt_gsym.specs.GsymSpans.{less}
+use Rattle.lnt_gsym.specs.Walking.{GivesEntry, next_start}
 use Rattle.lnt_gsym.proofs.RowSpanLemmas.{no, yes}
 use Rattle.lnt_gsym.proofs.TableLemmas.{less_one}
 

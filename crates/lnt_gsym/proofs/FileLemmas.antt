@@ -1,20 +1,18 @@
 -- The spans of a whole file.
-use Rattle.std.proofs.Common.{◌≡◌, ◌∙◌, ℕ, zero, suc, ◌+◌, ◌-◌, ◌*◌, ◌^◌, ◌<◌, ◌≤◌, Bool, true, false, List, [], ◌∷◌, ◌++◌, length, drop}
-use Rattle.std.proofs.Common.{refl, sym, ap, arith, Option, Some, None, subst}
+use Rattle.std.proofs.Common.{◌≡◌, ◌∙◌, ℕ, zero, suc, ◌+◌, ◌-◌, ◌^◌, ◌≤◌, Bool, true, false, List, [], ◌∷◌, length, drop}
+use Rattle.std.proofs.Common.{refl, sym, ap, arith, Some, None, subst}
 use Rattle.std.specs.Prelude.{◌==◌, nat_lt, Result, Ok, Err}
 use Rattle.std.specs.List.{AllByRecursion}
 use Rattle.std.proofs.lemmas.Bool.Decides.{nat_tests}
-use Rattle.lnt_spans.specs.declared.position.Position.{Position}
-use Rattle.lnt_spans.specs.declared.span.Span.{Span}
 use Rattle.lnt_wire.specs.Reading.{At}
 use Rattle.lnt_wire.specs.declared.format.Order.{Order}
 use Rattle.lnt_gsym.specs.GsymAnswers.{path_in}
 use Rattle.lnt_gsym.specs.GsymFields.{fault_of, Read}
 use Rattle.lnt_gsym.specs.GsymFiles.{at_place, files_of, first_lower, functions_of, Gsym, gsym_of, header_of, numbers_of, tables_of}
-use Rattle.lnt_gsym.specs.GsymInfos.{Function, function_of, Part, part, Row, rows_of, tables_from}
-use Rattle.lnt_gsym.specs.GsymSpans.{last_after, row_spans, spans_from}
-use Rattle.lnt_gsym.specs.Spanning.{AreToCome, entries_said, FunctionsLeft, HasRead, IsReadOf, names_said, NumbersRise, SpansSo}
-use Rattle.lnt_gsym.specs.Walking.{AreLeft, LeftBy, MadeSaid, named, NamesSaid}
+use Rattle.lnt_gsym.specs.GsymInfos.{Function, function_of, Part, part, Row, tables_from}
+use Rattle.lnt_gsym.specs.GsymSpans.{last_after, spans_from}
+use Rattle.lnt_gsym.specs.Spanning.{AreToCome, entries_said, HasRead, IsReadOf, names_said, NumbersRise, SpansSo}
+use Rattle.lnt_gsym.specs.Walking.{named, NamesSaid}
 use Rattle.lnt_gsym.specs.declared.fault.GsymFault.{GsymFault}
 use Rattle.lnt_gsym.specs.Reading.{header_said, tables_said}
 use Rattle.lnt_gsym.specs.declared.header.Header.{Header as HeaderRead}
@@ -26,7 +24,7 @@ use Rattle.lnt_gsym.proofs.FunctionSpanLemmas.{RowsRise, spans_answer, spans_ord
 use Rattle.lnt_gsym.proofs.JudgeLemmas.{files_length}
 use Rattle.lnt_gsym.proofs.MadeLemmas.{rows_rise}
 use Rattle.lnt_gsym.proofs.NameLemmas.{rows_tell}
-use Rattle.lnt_gsym.proofs.OpenLemmas.{entry_first, no_rows, read_so}
+use Rattle.lnt_gsym.proofs.OpenLemmas.{entry_first, no_rows, read_so, same_functions}
 use Rattle.lnt_gsym.proofs.RowSpanLemmas.{all_instructions, in_order, Rising}
 
 -- ---- rows stand in order
@@ -75,14 +73,7 @@ function_rises files start at f e =
 -- what the functions of a file are, one after another
 functions_rise : (order : Order) (bytes : List ℕ) (base files : ℕ) (starts infos : List ℕ) (fs : List Function)
     → functions_of order bytes base files starts infos ≡ Ok fs → length starts ≡ length infos → AllByRecursion RowsRise fs
-functions_rise order bytes base files [] infos fs e l = by fs e
-  where
-    by : (fs : List Function) → functions_of order bytes base files [] infos ≡ Ok fs → AllByRecursion RowsRise fs
-    by [] e = tt
-    by (f ∷ fs) e = absurd (never e)
-      where
-        never : functions_of order bytes base files [] infos ≡ Ok (f ∷ fs) → ⊥
-        never e = cc
+functions_rise order bytes base files [] infos fs e l = subst (AllByRecursion RowsRise) (same_functions [] fs e) tt
 functions_rise order bytes base files (s ∷ starts) [] fs e l = absurd (omega (arith, l))
 functions_rise order bytes base files (s ∷ starts) (i ∷ infos) fs e l =
     let first = entry_first order bytes base files s i starts infos fs e in
@@ -94,14 +85,8 @@ functions_rise order bytes base files (s ∷ starts) (i ∷ infos) fs e l =
 start_above : (order : Order) (bytes : List ℕ) (base files n : ℕ) (starts infos : List ℕ) (fs : List Function)
     → functions_of order bytes base files starts infos ≡ Ok fs → length starts ≡ length infos → NumbersRise (n ∷ starts)
     → AllByRecursion (λ g. base + n ≤ g.start) fs
-start_above order bytes base files n [] infos fs e l rise = by fs e
-  where
-    by : (fs : List Function) → functions_of order bytes base files [] infos ≡ Ok fs → AllByRecursion (λ g. base + n ≤ g.start) fs
-    by [] e = tt
-    by (f ∷ fs) e = absurd (never e)
-      where
-        never : functions_of order bytes base files [] infos ≡ Ok (f ∷ fs) → ⊥
-        never e = cc
+start_above order bytes base files n [] infos fs e l rise =
+    subst (AllByRecursion (λ g. base + n ≤ g.start)) (same_functions [] fs e) tt
 start_above order bytes base files n (s ∷ starts) [] fs e l rise = absurd (omega (arith, l))
 start_above order bytes base files n (s ∷ starts) (i ∷ infos) fs e l rise =
     let first = entry_first order bytes base files s i starts infos fs e in
@@ -118,14 +103,7 @@ start_above order bytes base files n (s ∷ starts) (i ∷ infos) fs e l rise =
 
 starts_rise : (order : Order) (bytes : List ℕ) (base files : ℕ) (starts infos : List ℕ) (fs : List Function)
     → functions_of order bytes base files starts infos ≡ Ok fs → length starts ≡ length infos → NumbersRise starts → Starts fs
-starts_rise order bytes base files [] infos fs e l rise = by fs e
-  where
-    by : (fs : List Function) → functions_of order bytes base files [] infos ≡ Ok fs → Starts fs
-    by [] e = tt
-    by (f ∷ fs) e = absurd (never e)
-      where
-        never : functions_of order bytes base files [] infos ≡ Ok (f ∷ fs) → ⊥
-        never e = cc
+starts_rise order bytes base files [] infos fs e l rise = subst Starts (same_functions [] fs e) tt
 starts_rise order bytes base files (s ∷ starts) [] fs e l rise = absurd (omega (arith, l))
 starts_rise order bytes base files (s ∷ starts) (i ∷ infos) fs e l rise =
     let first = entry_first order bytes base files s i starts infos fs e in

@@ -1,5 +1,5 @@
 -- The first fault of a file.
-use Rattle.std.proofs.Common.{◌≡◌, ◌∙◌, ℕ, zero, suc, ◌+◌, ◌*◌, List, ◌∷◌, length, drop, Some, None}
+use Rattle.std.proofs.Common.{◌≡◌, ◌∙◌, ℕ, zero, suc, ◌+◌, ◌*◌, List, ◌∷◌, length, drop, Option, Some, None}
 use Rattle.std.proofs.Common.{refl, sym, ap, arith, length-drop}
 use Rattle.std.specs.Prelude.{Result, Ok, Err}
 use Rattle.lnt_wire.specs.FirstValues.{first_number}
@@ -57,38 +57,43 @@ pub no_entry_yet : (order : Order) (bytes : List ℕ) (base files size count : �
     → length infos ≡ 4 * count → EntriesSoFar order bytes base files size count count starts infos starts infos
 no_entry_yet order bytes base files size count starts infos s i = record { same = refl; starts_length = s; infos_length = i }
 
--- the first entry of those that are left
+-- the first of two faults, if there is one
+abbrev first_of : Option GsymFault → Option GsymFault → Option GsymFault
+first_of (Some fault) other = Some fault
+first_of None other = other
+
+-- The first fault of the entries that are left is that of the first one, or else of those after it.
 one_entry : (order : Order) (bytes : List ℕ) (base files size left after : ℕ) (starts infos : List ℕ) → left ≡ after + 1
-    → functions_of order bytes base files (numbers_of order size left starts) (numbers_of order 4 left infos)
-    ≡ functions_of order bytes base files (first_number order size starts ∷ numbers_of order size after (drop size starts))
-    (first_number order 4 infos ∷ numbers_of order 4 after (drop 4 infos))
+    → fault_of (functions_of order bytes base files (numbers_of order size left starts) (numbers_of order 4 left infos))
+    ≡ first_of (entry_fault order bytes base files size starts infos)
+    (fault_of (functions_of order bytes base files (numbers_of order size after (drop size starts))
+    (numbers_of order 4 after (drop 4 infos))))
+unfolding entry_fault
 one_entry order bytes base files size left after starts infos e =
     let more : left ≡ suc after = omega (arith, e) in
-    ap (λ n. functions_of order bytes base files (numbers_of order size n starts) (numbers_of order 4 n infos)) more
+    ap (λ n. fault_of (functions_of order bytes base files (numbers_of order size n starts) (numbers_of order 4 n infos))) more
+    ∙ by (function_of files (base + first_number order size starts) (at_place order bytes (first_number order 4 infos))) refl
+  where
+    Rest : Result (List Function) GsymFault
+    Rest = functions_of order bytes base files (numbers_of order size after (drop size starts)) (numbers_of order 4 after (drop 4 infos))
+
+    by : (r : Result Function GsymFault)
+        → function_of files (base + first_number order size starts) (at_place order bytes (first_number order 4 infos)) ≡ r
+        → fault_of (functions_of order bytes base files (first_number order size starts ∷ numbers_of order size after (drop size starts))
+        (first_number order 4 infos ∷ numbers_of order 4 after (drop 4 infos)))
+        ≡ first_of (fault_of r) (fault_of Rest)
+    by (Err fault) f = rw (f, functions_of) refl
+    by (Ok function) f = rw (f, functions_of) (same_then Rest (λ functions. function ∷ functions))
 
 entry_judged_there : (order : Order) (bytes : List ℕ) (base files size count left after : ℕ) (starts infos all_starts all_infos : List ℕ)
     → EntriesSoFar order bytes base files size count left starts infos all_starts all_infos → left ≡ after + 1
     → entry_fault order bytes base files size starts infos ≡ None
     → EntriesSoFar order bytes base files size count after (drop size starts) (drop 4 infos) all_starts all_infos
-unfolding entry_fault
 entry_judged_there order bytes base files size count left after starts infos all_starts all_infos so e none = record {
-  same = so.same ∙ (ap fault_of (one_entry order bytes base files size left after starts infos e)
-      ∙ by_function (function_of files (base + first_number order size starts) (at_place order bytes (first_number order 4 infos))) refl);
+  same = so.same ∙ (one_entry order bytes base files size left after starts infos e ∙ rw none refl);
   starts_length = length-drop size starts ∙ less_one size left after (length starts) e so.starts_length;
   infos_length = length-drop 4 infos ∙ less_one 4 left after (length infos) e so.infos_length;
 }
-  where
-    by_function : (r : Result Function GsymFault)
-        → function_of files (base + first_number order size starts) (at_place order bytes (first_number order 4 infos)) ≡ r
-        → fault_of (functions_of order bytes base files (first_number order size starts ∷ numbers_of order size after (drop size starts))
-        (first_number order 4 infos ∷ numbers_of order 4 after (drop 4 infos)))
-        ≡ fault_of (functions_of order bytes base files (numbers_of order size after (drop size starts)) (numbers_of order 4 after
-        (drop 4 infos)))
-    by_function (Err fault) f = let some : Some fault ≡ None = ap fault_of (sym f) ∙ none in cc
-    by_function (Ok function) f = rw (f, functions_of)
-        (same_then (functions_of order bytes base files (numbers_of order size after (drop size starts)) (numbers_of order 4 after
-        (drop 4 infos)))
-        (λ functions. function ∷ functions))
 
 pub entry_judged : (order : Order) (bytes : List ℕ) (base files size count left after : ℕ)
     (starts infos later_starts later_infos all_starts all_infos : List ℕ)
@@ -103,18 +108,8 @@ pub entry_refused : (order : Order) (bytes : List ℕ) (base files size count le
     → entry_fault order bytes base files size starts infos ≡ Some fault
     → fault_of (functions_of order bytes base files (numbers_of order size count all_starts) (numbers_of order 4 count all_infos))
     ≡ Some fault
-unfolding entry_fault
 entry_refused order bytes base files size count left after starts infos all_starts all_infos fault so e some =
-    so.same ∙ (ap fault_of (one_entry order bytes base files size left after starts infos e)
-    ∙ by_function (function_of files (base + first_number order size starts) (at_place order bytes (first_number order 4 infos))) refl)
-  where
-    by_function : (r : Result Function GsymFault)
-        → function_of files (base + first_number order size starts) (at_place order bytes (first_number order 4 infos)) ≡ r
-        → fault_of (functions_of order bytes base files (first_number order size starts ∷ numbers_of order size after (drop size starts))
-        (first_number order 4 infos ∷ numbers_of order 4 after (drop 4 infos)))
-        ≡ Some fault
-    by_function (Err other) f = rw (f, functions_of) (ap fault_of (sym f) ∙ some)
-    by_function (Ok function) f = let none : None ≡ Some fault = ap fault_of (sym f) ∙ some in cc
+    so.same ∙ (one_entry order bytes base files size left after starts infos e ∙ rw some refl)
 
 pub entries_end : (order : Order) (bytes : List ℕ) (base files size count left : ℕ) (starts infos all_starts all_infos : List ℕ)
     → EntriesSoFar order bytes base files size count left starts infos all_starts all_infos → left ≡ 0

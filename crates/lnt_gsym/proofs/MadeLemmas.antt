@@ -1,19 +1,18 @@
 -- The rows that are made one after another.
 use Rattle.std.proofs.Common.{◌≡◌, ◌∙◌, ℕ, zero, suc, ◌+◌, ◌%◌, ◌^◌, ◌<◌, ◌≤◌, Bool, true, false, List, [], ◌∷◌, length, Option, Some, None}
 use Rattle.std.proofs.Common.{refl, sym, ap, arith, subst}
-use Rattle.std.specs.Prelude.{unwrap_or, Result, Ok, Err, nat_lt, not, IfSome}
-use Rattle.std.proofs.lemmas.Bool.Decides.{nat_tests}
+use Rattle.std.specs.Prelude.{Result, Ok, Err, nat_lt, IfSome}
 use Rattle.lnt_wire.specs.Reading.{At}
-use Rattle.lnt_gsym.specs.GsymFields.{fault_of, Read, then_read}
+use Rattle.lnt_gsym.specs.GsymFields.{Read}
 use Rattle.lnt_gsym.specs.GsymInfos.{line_numbers, LineNumbers, made, operation, Operation, Row, row_after, row_reason}
 use Rattle.lnt_gsym.specs.GsymInfos.{rows_from, rows_of}
 use Rattle.lnt_gsym.specs.Reading.{moved}
-use Rattle.lnt_gsym.specs.Walking.{AreLeft, HasRows, left_by, LeftBy, MadeSaid, rows_after, TakesRow}
+use Rattle.lnt_gsym.specs.Walking.{HasRows, left_by, LeftBy, rows_after}
 use Rattle.lnt_gsym.specs.declared.fault.GsymFault.{GsymFault}
 use Rattle.lnt_gsym.specs.declared.fault.GsymReason.{GsymReason}
 use Rattle.lnt_gsym.specs.declared.fault.GsymReason.TheVariants.{NumberTooLarge}
 use Rattle.lnt_gsym.proofs.RowLemmas.{moved_back, no_operation}
-use Rattle.lnt_gsym.proofs.RowSpanLemmas.{AtLeast, no, Rising, yes}
+use Rattle.lnt_gsym.proofs.RowSpanLemmas.{AtLeast, no, Rising}
 
 -- these rows, and no fault
 abbrev all_of : List Row → Result (List Row) GsymFault

@@ -1,15 +1,13 @@
 -- The names of files.
-use Rattle.std.proofs.Common.{◌≡◌, ◌∙◌, ℕ, zero, suc, ◌+◌, ◌-◌, ◌*◌, ◌<◌, ◌≤◌, Bool, true, false, List, [], ◌∷◌, ◌++◌, length, take, drop}
-use Rattle.std.proofs.Common.{refl, sym, ap, arith, cond, drop-drop, get_or, length-drop, Option, Some, None, subst}
-use Rattle.std.specs.Prelude.{◌==◌, ◌||◌, is_some, if◌then◌else◌}
+use Rattle.std.proofs.Common.{◌≡◌, ◌∙◌, ℕ, zero, suc, ◌+◌, ◌*◌, ◌<◌, ◌≤◌, Bool, true, false, List, [], ◌∷◌, ◌++◌, length, take, drop}
+use Rattle.std.proofs.Common.{refl, sym, ap, arith, cond, drop-drop, get_or, Some, None}
+use Rattle.std.specs.Prelude.{◌==◌, ◌||◌, is_some}
 use Rattle.std.proofs.Math.ListN.{drop_of_length-le}
 use Rattle.std.proofs.lemmas.Grind.{common_steps}
 use Rattle.std.proofs.lemmas.List.{drop_more}
-use Rattle.std.proofs.lemmas.Bool.Decides.{nat_tests}
-use Rattle.lnt_records.specs.PathSpans.{PathAnswer}
 use Rattle.lnt_wire.specs.FirstValues.{first_number, first_text}
 use Rattle.lnt_wire.specs.declared.format.Order.{Order}
-use Rattle.lnt_gsym.specs.GsymAnswers.{joined, path_in, row_answer, separator, text_at, told}
+use Rattle.lnt_gsym.specs.GsymAnswers.{joined, path_in, row_answer, text_at, told}
 use Rattle.lnt_gsym.specs.GsymFiles.{files_of, Gsym}
 use Rattle.lnt_gsym.specs.GsymInfos.{Row}
 use Rattle.lnt_gsym.specs.GsymSpans.{tells}

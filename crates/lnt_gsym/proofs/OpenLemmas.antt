@@ -189,6 +189,9 @@ found_above base start next starts n offset is =
 abbrev all_functions : List Function → Result (List Function) GsymFault
 all_functions fs = Ok fs
 
+pub same_functions : (x y : List Function) → all_functions x ≡ Ok y → x ≡ y
+same_functions x y e = cc
+
 -- what is read of a function
 pub record IsReadSo (files start : ℕ) (f : Function) : Type 0 where
   pub at : At
@@ -224,9 +227,6 @@ entry_first order bytes base files start info starts infos fs e = by (function_o
         × (function_of files (base + start) (at_place order bytes info) ≡ Ok f)
         × (functions_of order bytes base files starts infos ≡ Ok later) × (f.start ≡ base + start)
 
-    same : (x y : List Function) → all_functions x ≡ Ok y → x ≡ y
-    same x y e = cc
-
     by : (r : Result Function GsymFault) → function_of files (base + start) (at_place order bytes info) ≡ r → Parts
     by (Err fault) g =
         let one : functions_of order bytes base files (start ∷ starts) (info ∷ infos) ≡ Err fault = rw (g, functions_of) refl in
@@ -240,19 +240,13 @@ entry_first order bytes base files start info starts infos fs e = by (function_o
         = rw (g, functions_of) refl in
         let rest = then_is (functions_of order bytes base files starts infos) (λ functions. all_functions (f ∷ functions)) fs (sym one
         ∙ e) in
-        (f, rest.0, sym (same (f ∷ rest.0) fs rest.2), g, rest.1, (read_so files (base + start) (at_place order bytes info) f g).start_is)
+        let all : f ∷ rest.0 ≡ fs = same_functions (f ∷ rest.0) fs rest.2 in
+        (f, rest.0, sym all, g, rest.1, (read_so files (base + start) (at_place order bytes info) f g).start_is)
 
 next_is : (order : Order) (bytes : List ℕ) (base files start : ℕ) (starts infos : List ℕ) (fs : List Function)
     → functions_of order bytes base files starts infos ≡ Ok fs → length starts ≡ length infos
     → next_start base start starts ≡ next_above start fs
-next_is order bytes base files start [] infos fs e l = by fs e
-  where
-    by : (fs : List Function) → functions_of order bytes base files [] infos ≡ Ok fs → 2 ^ 64 - 1 ≡ next_above start fs
-    by [] e = refl
-    by (f ∷ fs) e = absurd (never e)
-      where
-        never : functions_of order bytes base files [] infos ≡ Ok (f ∷ fs) → ⊥
-        never e = cc
+next_is order bytes base files start [] infos fs e l = ap (next_above start) (same_functions [] fs e)
 next_is order bytes base files start (s ∷ starts) [] fs e l = absurd (omega (arith, l))
 next_is order bytes base files start (s ∷ starts) (i ∷ infos) fs e l =
     let first = entry_first order bytes base files s i starts infos fs e in
@@ -267,14 +261,10 @@ next_is order bytes base files start (s ∷ starts) (i ∷ infos) fs e l =
 -- no function is left
 pub none_open : (files : ℕ) (functions : Functions) (above : Option Above) (fs : List Function) → functions.entries.starts ≡ []
     → FunctionsLeft files functions above fs → fs ≡ []
-none_open files functions above fs none left = by fs refl
-  where
-    none_of : functions_of functions.order functions.bytes.now functions.entries.base files functions.entries.starts functions.entries.infos
-        ≡ all_functions []
-    none_of = rw none refl
-
-    by : (gs : List Function) → gs ≡ fs → fs ≡ []
-    by gs e = let two : all_functions [] ≡ Ok fs = sym none_of ∙ left.read in cc
+none_open files functions above fs none left =
+    let read : all_functions [] ≡ functions_of functions.order functions.bytes.now functions.entries.base files functions.entries.starts
+    functions.entries.infos = rw none refl in
+    sym (same_functions [] fs (read ∙ left.read))
 
 -- what the first entry says, with the functions after it
 first_left : (files : ℕ) (functions : Functions) (entries : EntriesSaid) (above : Option Above) (start place : ℕ) (fs : List Function)
@@ -380,16 +370,23 @@ OpensPart covered start next opened size name gate rows = (gsym : Gsym) (files :
     → IsFunction files (more covered start) size name gate rows f → IsPartOf gsym files covered start next opened f
 
 next_found : (files : ℕ) (functions : Functions) (entries : EntriesSaid) (above known : Option Above) (start place next : ℕ)
-    (fs : List Function) → (gives : GivesEntry functions.entries entries start place)
+    (fs later : List Function) → (gives : GivesEntry functions.entries entries start place)
     → KnowsNext entries.base start entries.starts above known next → FunctionsLeft files functions above fs
-    → (next ≡ next_start entries.base start entries.starts) × IsAbove entries.base entries.starts known
+    → functions_of functions.order functions.bytes.now entries.base files entries.starts entries.infos ≡ Ok later
+    → length entries.starts ≡ length entries.infos
+    → (next ≡ next_above start later) × IsAbove entries.base entries.starts known
     × IsAbove entries.base (gives.offset ∷ entries.starts) known
-next_found files functions entries above known start place next fs gives nexts left =
+next_found files functions entries above known start place next fs later gives nexts left read lengths =
     let start_is : start ≡ entries.base + gives.offset = gives.start_is ∙ ap (λ b. b + gives.offset) (sym gives.base_is) in
     let known_is : IsAbove entries.base (gives.offset ∷ entries.starts) above
     = subst (λ b. IsAbove b (gives.offset ∷ entries.starts) above) (sym gives.base_is)
     (subst (λ s. IsAbove functions.entries.base s above) gives.starts left.above_is) in
-    nexts gives.offset start_is known_is
+    let found = nexts gives.offset start_is known_is in (
+      found.0
+          ∙ next_is functions.order functions.bytes.now entries.base files start entries.starts entries.infos later read lengths,
+      found.1,
+      found.2,
+    )
 
 pub one_open : (gsym : Gsym) (files : ℕ) (functions : Functions) (entries : EntriesSaid) (above known : Option Above)
     (start place next covered address size name : ℕ) (gate : Gate) (found : MadeSaid) (opened : Opened) (fs : List Function)
@@ -403,10 +400,7 @@ pub one_open : (gsym : Gsym) (files : ℕ) (functions : Functions) (entries : En
 one_open gsym files functions entries above known start place next covered address size name gate found opened fs gives nexts a is part o
     left =
     let first = first_left files functions entries above start place fs gives left in
-    let next_known = next_found files functions entries above known start place next fs gives nexts left in
-    let next_of : next ≡ next_above start first.1
-    = next_known.0 ∙ next_is functions.order functions.bytes.now entries.base files start entries.starts entries.infos first.1 first.4
-    first.6 in
+    let next_known = next_found files functions entries above known start place next fs first.1 gives nexts left first.4 first.6 in
     let some = part gsym files first.0 (subst (λ n. IsFunction files n size name gate found first.0) a (is files first.0 first.3)) in
     record {
       made = some.made;
@@ -414,7 +408,7 @@ one_open gsym files functions entries above known start place next covered addre
       left = some.left;
       functions_left = record { read = first.4; lengths = first.6; above_is = next_known.1 };
       spans = ap (spans_from gsym covered) first.2
-          ∙ spans_more gsym files covered start next opened first.0 first.1 first.5 next_of o some;
+          ∙ spans_more gsym files covered start next opened first.0 first.1 first.5 next_known.0 o some;
     }
 
 pub one_stays : (gsym : Gsym) (files : ℕ) (functions : Functions) (entries : EntriesSaid) (above known : Option Above)
@@ -428,10 +422,7 @@ pub one_stays : (gsym : Gsym) (files : ℕ) (functions : Functions) (entries : E
 one_stays gsym files functions entries above known start place next covered address size name gate found opened fs gives nexts a is part o
     left =
     let first = first_left files functions entries above start place fs gives left in
-    let next_known = next_found files functions entries above known start place next fs gives nexts left in
-    let next_of : next ≡ next_above start first.1
-    = next_known.0 ∙ next_is functions.order functions.bytes.now entries.base files start entries.starts entries.infos first.1 first.4
-    first.6 in
+    let next_known = next_found files functions entries above known start place next fs first.1 gives nexts left first.4 first.6 in
     let some = part gsym files first.0 (subst (λ n. IsFunction files n size name gate found first.0) a (is files first.0 first.3)) in
     record {
       made = some.made;
@@ -444,7 +435,7 @@ one_stays gsym files functions entries above known start place next covered addr
             (subst (λ s. IsAbove entries.base s known) (sym gives.starts) next_known.2);
       };
       spans = ap (spans_from gsym covered) first.2
-          ∙ (spans_some gsym files covered start next opened first.0 first.1 first.5 next_of o some
+          ∙ (spans_some gsym files covered start next opened first.0 first.1 first.5 next_known.0 o some
           ∙ ap (λ gs. row_spans (tells gsym) opened.part.low opened.part.high some.made ++ spans_from gsym opened.covered gs)
           (sym first.2));
     }

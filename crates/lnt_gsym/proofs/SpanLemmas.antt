@@ -1,11 +1,10 @@
 -- The spans of a file, one after another.
-use Rattle.std.proofs.Common.{◌≡◌, ◌∙◌, ℕ, zero, suc, ◌+◌, ◌-◌, ◌*◌, ◌^◌, ◌<◌, ◌≤◌, Bool, true, false, List, [], ◌∷◌, ◌++◌, length}
-use Rattle.std.proofs.Common.{refl, sym, ap, arith, Option, Some, None, subst}
-use Rattle.std.specs.Prelude.{◌&&◌, nat_lt, not}
-use Rattle.std.proofs.lemmas.Bool.Decides.{nat_tests}
+use Rattle.std.proofs.Common.{◌≡◌, ◌∙◌, ℕ, ◌<◌, ◌≤◌, Bool, true, false, List, [], ◌∷◌, ◌++◌}
+use Rattle.std.proofs.Common.{refl, sym, ap, arith, Option, Some, None}
+use Rattle.std.specs.Prelude.{◌&&◌, nat_lt}
 use Rattle.lnt_spans.specs.declared.span.Span.{Span}
 use Rattle.lnt_gsym.specs.GsymInfos.{Row}
-use Rattle.lnt_gsym.specs.GsymSpans.{less, more, row_part, row_span, row_spans, up_to}
+use Rattle.lnt_gsym.specs.GsymSpans.{more, row_part, row_span, row_spans, up_to}
 use Rattle.lnt_gsym.specs.Walking.{AreLeft, begins_by, count_left, GivesPart, LeftBy, MadeSaid, TakesRow}
 
 -- ---- the rows of a part

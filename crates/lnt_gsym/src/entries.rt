@@ -4,7 +4,7 @@ ghost use Rattle.lnt_gsym.specs.GsymFiles.{is_address_size, numbers_of};
 ghost use Rattle.lnt_gsym.specs.Walking.{GivesEntry, next_start};
 
 use crate::address::in_table;
-use crate::fields::{number_of, rest_after};
+use crate::fields::{number_at, rest_after};
 use crate::tables::offset_of;
 use lnt_wire::Order;
 use std::marker::Model;
@@ -91,7 +91,7 @@ impl<'a> Entries<'a> {
             return None;
         }
         let offset = offset_of(self.order, self.size, self.starts);
-        let place = number_of(self.order, self.infos);
+        let place = number_at(self.order, self.infos, 0);
         let starts = rest_after(self.starts, self.size as usize);
         let infos = rest_after(self.infos, 4);
         self.starts = starts;

@@ -1,8 +1,8 @@
 //! Reads the fields of a GSYM file.
 ghost use Rattle.std.specs.Prelude.{◌≡◌, ◌+◌, ◌^◌, ◌≤◌, Ok, Err, drop, length, IfOk, MatchResult, OnOk};
 ghost use Rattle.lnt_gsym.specs.GsymFields.{block, file_number, number, signed, unsigned};
+ghost use Rattle.lnt_gsym.specs.GsymFiles.{number_at};
 ghost use Rattle.lnt_gsym.specs.Reading.{named_fault};
-ghost use Rattle.lnt_wire.specs.FirstValues.{first_number};
 
 use crate::fault::{GsymFault, GsymReason};
 use byteorder::{BigEndian, ByteOrder, LittleEndian};
@@ -36,19 +36,7 @@ pub(crate) fn byte(cursor: &mut Cursor<'_>) -> Result<u8, GsymFault>
     let rest = cursor.rest();
     let order = cursor.order();
     block(cursor, 1)?;
-    Ok(byte_of(order, rest))
-}
-
-/// The number that the first byte is, in either order.
-#[inline(always)]
-pub(crate) fn byte_of(order: Order, bytes: &[u8]) -> u8
-    requires { 1 ≤ length bytes.now }
-    ensures { result ≡ first_number order 1 bytes.now }
-{
-    match order {
-        Order::Little => bytes[0],
-        Order::Big => bytes[0],
-    }
+    Ok(byte_at(order, rest, 0))
 }
 
 /// A number of 4 bytes.
@@ -60,19 +48,7 @@ pub(crate) fn number(cursor: &mut Cursor<'_>) -> Result<u32, GsymFault>
     let rest = cursor.rest();
     let order = cursor.order();
     block(cursor, 4)?;
-    Ok(number_of(order, rest))
-}
-
-/// The number that the first 4 bytes encode. The caller ensures that there are as many.
-#[inline(always)]
-pub(crate) fn number_of(order: Order, bytes: &[u8]) -> u32
-    requires { 4 ≤ length bytes.now }
-    ensures { result ≡ first_number order 4 bytes.now }
-{
-    match order {
-        Order::Little => LittleEndian::read_u32(bytes),
-        Order::Big => BigEndian::read_u32(bytes),
-    }
+    Ok(number_at(order, rest, 0))
 }
 
 /// An unsigned LEB128 number.
@@ -132,6 +108,58 @@ fn leb_fault(fault: Fault) -> GsymFault
             place,
             reason: GsymReason::Cut,
         },
+    }
+}
+
+/// The number of 1 byte at a place. The caller ensures that it is there.
+#[inline(always)]
+pub(crate) fn byte_at(order: Order, bytes: &[u8], place: usize) -> u8
+    requires { place + 1 ≤ length bytes.now }
+    ensures { result ≡ number_at order bytes.now place 1 }
+{
+    let rest = rest_after(bytes, place);
+    match order {
+        Order::Little => rest[0],
+        Order::Big => rest[0],
+    }
+}
+
+/// The number of 2 bytes at a place. The caller ensures that they are there.
+#[inline(always)]
+pub(crate) fn short_at(order: Order, bytes: &[u8], place: usize) -> u16
+    requires { place + 2 ≤ length bytes.now }
+    ensures { result ≡ number_at order bytes.now place 2 }
+{
+    let rest = rest_after(bytes, place);
+    match order {
+        Order::Little => LittleEndian::read_u16(rest),
+        Order::Big => BigEndian::read_u16(rest),
+    }
+}
+
+/// The number of 4 bytes at a place. The caller ensures that they are there.
+#[inline(always)]
+pub(crate) fn number_at(order: Order, bytes: &[u8], place: usize) -> u32
+    requires { place + 4 ≤ length bytes.now }
+    ensures { result ≡ number_at order bytes.now place 4 }
+{
+    let rest = rest_after(bytes, place);
+    match order {
+        Order::Little => LittleEndian::read_u32(rest),
+        Order::Big => BigEndian::read_u32(rest),
+    }
+}
+
+/// The number of 8 bytes at a place. The caller ensures that they are there.
+#[inline(always)]
+pub(crate) fn long_at(order: Order, bytes: &[u8], place: usize) -> u64
+    requires { place + 8 ≤ length bytes.now }
+    ensures { result ≡ number_at order bytes.now place 8 }
+{
+    let rest = rest_after(bytes, place);
+    match order {
+        Order::Little => LittleEndian::read_u64(rest),
+        Order::Big => BigEndian::read_u64(rest),
     }
 }
 

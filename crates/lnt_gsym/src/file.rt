@@ -7,7 +7,7 @@ ghost use Rattle.lnt_gsym.specs.Spanning.{IsReadOf, entries_said, names_said};
 
 use crate::entries::Entries;
 use crate::fault::GsymFault;
-use crate::fields::{number_of, rest_after};
+use crate::fields::{number_at, rest_after};
 use crate::header::{Header, header_of};
 use crate::info::judge_info;
 use crate::names::Names;
@@ -34,10 +34,10 @@ pub fn order_of(bytes: &[u8]) -> Option<Order>
     if bytes.len() < 4 {
         return None;
     }
-    if number_of(Order::Little, bytes) == 0x4753594d {
+    if number_at(Order::Little, bytes, 0) == 0x4753594d {
         return Some(Order::Little);
     }
-    if number_of(Order::Big, bytes) == 0x4753594d {
+    if number_at(Order::Big, bytes, 0) == 0x4753594d {
         return Some(Order::Big);
     }
     None
@@ -159,7 +159,7 @@ fn judge_entry(bytes: &[u8], of: EntriesOf, starts: &[u8], infos: &[u8]) -> Resu
         (λ fault. entry_fault of.order bytes.now of.base of.files of.address_size starts.now infos.now ≡ Some fault) }
 {
     let offset = offset_of(of.order, of.address_size, starts);
-    let place = number_of(of.order, infos);
+    let place = number_at(of.order, infos, 0);
     let start = u128::from(of.base) + u128::from(offset);
     let mut cursor = cursor_at(of.order, bytes, u64::from(place));
     judge_info(&mut cursor, of.files, start)

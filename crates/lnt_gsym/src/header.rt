@@ -1,12 +1,10 @@
 //! Reads the header.
 ghost use Rattle.std.specs.Prelude.{◌≡◌, ◌+◌, ◌≤◌, Ok, Err, length, IfOk, MatchResult, OnOk, true};
-ghost use Rattle.lnt_gsym.specs.GsymFiles.{header_of, is_address_size, number_at};
+ghost use Rattle.lnt_gsym.specs.GsymFiles.{header_of, is_address_size};
 ghost use Rattle.lnt_gsym.specs.Reading.{header_said};
-ghost use Rattle.lnt_wire.specs.FirstValues.{first_number};
 
 use crate::fault::{GsymFault, GsymReason};
-use crate::fields::{byte_of, number_of};
-use byteorder::{BigEndian, ByteOrder, LittleEndian};
+use crate::fields::{byte_at, long_at, number_at, short_at};
 use lnt_wire::Order;
 
 /// What a header says.
@@ -72,60 +70,4 @@ fn is_address_size(size: u8) -> bool
     ensures { result ≡ is_address_size size }
 {
     size == 1 || size == 2 || size == 4 || size == 8
-}
-
-/// The number that the first 2 bytes encode. The caller ensures that there are as many.
-#[inline(always)]
-pub(crate) fn short_of(order: Order, bytes: &[u8]) -> u16
-    requires { 2 ≤ length bytes.now }
-    ensures { result ≡ first_number order 2 bytes.now }
-{
-    match order {
-        Order::Little => LittleEndian::read_u16(bytes),
-        Order::Big => BigEndian::read_u16(bytes),
-    }
-}
-
-/// The number that the first 8 bytes encode. The caller ensures that there are as many.
-#[inline(always)]
-pub(crate) fn long_of(order: Order, bytes: &[u8]) -> u64
-    requires { 8 ≤ length bytes.now }
-    ensures { result ≡ first_number order 8 bytes.now }
-{
-    match order {
-        Order::Little => LittleEndian::read_u64(bytes),
-        Order::Big => BigEndian::read_u64(bytes),
-    }
-}
-
-// The number of 1 byte at a place.
-fn byte_at(order: Order, bytes: &[u8], place: usize) -> u8
-    requires { place + 1 ≤ length bytes.now }
-    ensures { result ≡ number_at order bytes.now place 1 }
-{
-    byte_of(order, &bytes[place..])
-}
-
-// The number of 2 bytes at a place.
-fn short_at(order: Order, bytes: &[u8], place: usize) -> u16
-    requires { place + 2 ≤ length bytes.now }
-    ensures { result ≡ number_at order bytes.now place 2 }
-{
-    short_of(order, &bytes[place..])
-}
-
-// The number of 4 bytes at a place.
-fn number_at(order: Order, bytes: &[u8], place: usize) -> u32
-    requires { place + 4 ≤ length bytes.now }
-    ensures { result ≡ number_at order bytes.now place 4 }
-{
-    number_of(order, &bytes[place..])
-}
-
-// The number of 8 bytes at a place.
-fn long_at(order: Order, bytes: &[u8], place: usize) -> u64
-    requires { place + 8 ≤ length bytes.now }
-    ensures { result ≡ number_at order bytes.now place 8 }
-{
-    long_of(order, &bytes[place..])
 }

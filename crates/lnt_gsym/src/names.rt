@@ -6,7 +6,7 @@ ghost use Rattle.lnt_gsym.specs.GsymSpans.{tells};
 ghost use Rattle.lnt_gsym.specs.Walking.{has_bytes, named};
 ghost use Rattle.lnt_wire.specs.FirstValues.{first_number, first_text};
 
-use crate::fields::{number_of, rest_after};
+use crate::fields::{number_at, rest_after};
 use crate::line_table::Row;
 use lnt_records::Paths;
 use lnt_wire::Order;
@@ -59,8 +59,8 @@ impl<'a> Names<'a> {
             return None;
         }
         let entry = rest_after(self.files, 8 * file as usize);
-        let directory = number_of(self.order, entry);
-        let name = number_of(self.order, rest_after(entry, 4));
+        let directory = number_at(self.order, entry, 0);
+        let name = number_at(self.order, entry, 4);
         Some((directory, name))
     }
 

@@ -8,6 +8,14 @@ use crate::fields::{byte, file_number, signed, unsigned};
 use crate::line_table::{LineNumbers, Operation};
 use lnt_wire::Cursor;
 
+// An operation without effect.
+const NOTHING: Operation = Operation {
+    advance: 0,
+    change: 0,
+    file: None,
+    makes_row: false,
+};
+
 /// The head of a line table.
 pub(crate) fn line_numbers(cursor: &mut Cursor<'_>) -> Result<LineNumbers, GsymFault>
     ensures read { MatchResult result (λ n. line_numbers cursor.old ≡ Ok (n, cursor.new)) (λ fault. line_numbers cursor.old ≡ Err fault) }
@@ -46,58 +54,20 @@ pub(crate) fn operation(
     let code = byte(cursor)?;
     match code {
         0 => Ok(None),
-        1 => {
-            let file = file_number(cursor)?;
-            Ok(Some(set_file(file)))
-        }
-        2 => {
-            let advance = unsigned(cursor)?;
-            Ok(Some(moved_by(advance)))
-        }
-        3 => {
-            let change = signed(cursor)?;
-            Ok(Some(changed_by(change)))
-        }
+        1 => Ok(Some(Operation {
+            file: Some(file_number(cursor)?),
+            ..NOTHING
+        })),
+        2 => Ok(Some(Operation {
+            advance: unsigned(cursor)?,
+            makes_row: true,
+            ..NOTHING
+        })),
+        3 => Ok(Some(Operation {
+            change: added(signed(cursor)?),
+            ..NOTHING
+        })),
         _ => Ok(Some(special(numbers, code))),
-    }
-}
-
-// Sets the file.
-#[inline(always)]
-fn set_file(file: u32) -> Operation
-    ensures { result ≡ record { advance = 0; change = 0; file = Some file; makes_row = false } }
-{
-    Operation {
-        advance: 0,
-        change: 0,
-        file: Some(file),
-        makes_row: false,
-    }
-}
-
-// Advances the address, and makes a row.
-#[inline(always)]
-fn moved_by(advance: u64) -> Operation
-    ensures { result ≡ record { advance = advance; change = 0; file = None; makes_row = true } }
-{
-    Operation {
-        advance,
-        change: 0,
-        file: None,
-        makes_row: true,
-    }
-}
-
-// Adds to the line.
-#[inline(always)]
-fn changed_by(change: i64) -> Operation
-    ensures { result ≡ record { advance = 0; change = added change; file = None; makes_row = false } }
-{
-    Operation {
-        advance: 0,
-        change: added(change),
-        file: None,
-        makes_row: false,
     }
 }
 

@@ -138,11 +138,7 @@ impl<'f, 'a> GsymSpans<'f, 'a> {
             names,
             above: None,
             covered: 0,
-            part: Part {
-                low: 0,
-                high: 0,
-                rows: MadeRows::none(),
-            },
+            part: no_part(),
         }
     }
 }

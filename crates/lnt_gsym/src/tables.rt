@@ -6,8 +6,8 @@ ghost use Rattle.lnt_gsym.specs.Reading.{header_said, tables_said};
 ghost use Rattle.lnt_wire.specs.FirstValues.{first_number};
 
 use crate::fault::{GsymFault, GsymReason};
-use crate::fields::{block, byte_of, number, number_of, rest_after};
-use crate::header::{Header, long_of, short_of};
+use crate::fields::{block, byte_at, long_at, number, number_at, rest_after, short_at};
+use crate::header::Header;
 use lnt_wire::{Cursor, Order};
 
 /// The tables, as their bytes.
@@ -120,9 +120,9 @@ pub(crate) fn offset_of(order: Order, size: u8, bytes: &[u8]) -> u64
     ensures { result ≡ first_number order size bytes.now }
 {
     match size {
-        1 => u64::from(byte_of(order, bytes)),
-        2 => u64::from(short_of(order, bytes)),
-        4 => u64::from(number_of(order, bytes)),
-        _ => long_of(order, bytes),
+        1 => u64::from(byte_at(order, bytes, 0)),
+        2 => u64::from(short_at(order, bytes, 0)),
+        4 => u64::from(number_at(order, bytes, 0)),
+        _ => long_at(order, bytes, 0),
     }
 }

@@ -1,4 +1,4 @@
-use Rattle.std.proofs.Common.{ap, arith, ◌+◌, ◌-◌, ◌∙◌}
+use Rattle.std.proofs.Common.{arith, ◌+◌, ◌-◌}
 use Rattle.lnt_gsym.proofs.EntryLemmas.{one_passed}
 use Rattle.lnt_gsym.proofs.entries.next_above.Goals as goal
 

@@ -1,4 +1,3 @@
-use Rattle.std.proofs.Common.{arith}
 use Rattle.lnt_gsym.proofs.MadeLemmas.{none_left, none_made, none_read, one_made, one_passed}
 use Rattle.lnt_gsym.proofs.made.next_made.Goals as goal
 

@@ -1,7 +1,7 @@
 use Rattle.std.proofs.Common.{sym}
 use Rattle.lnt_gsym.specs.GsymSpans.{tells}
 use Rattle.lnt_gsym.specs.Walking.{named}
-use Rattle.lnt_gsym.proofs.SpanLemmas.{none_given, none_skipped, one_given, one_skipped}
+use Rattle.lnt_gsym.proofs.SpanLemmas.{none_given, one_given, one_skipped}
 use Rattle.lnt_gsym.proofs.spans.next_in_part.Goals as goal
 
 pub returns-in-None-clause-gives : goal.returns-in-None-clause-gives

@@ -3,4 +3,4 @@ use Rattle.lnt_gsym.proofs.FileLemmas.{spans_so}
 use Rattle.lnt_gsym.proofs.spans.GsymSpans.of.Goals as goal
 
 pub returns : goal.returns
-returns c = λ gsym has. spans_so _ gsym has refl refl c.none.ensures
+returns c = λ gsym has. spans_so _ gsym has refl refl c.no_part.ensures
