@@ -1,5 +1,5 @@
 //! Prints the table of a GSYM file.
-ghost use Rattle.std.specs.Prelude.{◌≡◌, ◌⊎◌, IfErr, IfOk, OnErr, OnOk};
+ghost use Rattle.std.specs.Prelude.{◌≡◌, ◌⊎◌, IfErr, IfOk, OnErr};
 ghost use Rattle.std.specs.Io.KnownBytes.{Keeps};
 ghost use Rattle.lnt_compare.specs.Canonical.{BeginsPathTable};
 ghost use Rattle.lnt_gsym.specs.GsymAnswers.{gsym_answer};
@@ -15,7 +15,7 @@ use crate::fault::SymbolFault;
 use lnt_compare::write_instructions_by_path;
 use lnt_gsym::{Functions, GsymSpans, Names, read_gsym};
 use lnt_io::{IoStop, Status, print_line};
-use lnt_records::{PathVersion, WriteStop};
+use lnt_records::PathVersion;
 use lnt_wire::Order;
 use std::alloc::Global;
 use std::io::Write;
@@ -57,22 +57,6 @@ fn print_spans<W: Write>(
         ⊎ BeginsPathTable Four (answers_in_table (gsym_answer gsym)) (W.contents out.old) (W.contents out.new)) }
     ensures err { IfErr result IsPrinting }
 {
-    write_spans(alloc, functions, names, out)?;
-    Ok(Status::Done)
-}
-
-// Writes it.
-fn write_spans<W: Write>(
-    alloc: Global,
-    functions: Functions<'_>,
-    names: &Names<'_>,
-    out: &mut W,
-) -> Result<(), WriteStop>
-    ensures table { OnOk result ((gsym : file.Gsym) → HasRead functions.entry names.now gsym
-        → HasTable (answers_in_table (gsym_answer gsym)) (W.contents out.old) (W.contents out.new)) }
-    ensures begun { OnErr result ((gsym : file.Gsym) → HasRead functions.entry names.now gsym
-        → BeginsPathTable Four (answers_in_table (gsym_answer gsym)) (W.contents out.old) (W.contents out.new)) }
-{
     match write_instructions_by_path(
         alloc,
         GsymSpans::of(functions, names),
@@ -80,7 +64,7 @@ fn write_spans<W: Write>(
         PathVersion::Four,
         out,
     ) {
-        Ok(()) => Ok(()),
-        Err(stop) => Err(stop),
+        Ok(()) => Ok(Status::Done),
+        Err(stop) => Err(IoStop::from(stop)),
     }
 }
