@@ -107,6 +107,21 @@ usage() {
     bash -c 'mkdir -p "$0/off/bin" && cp linetab-object "$0/off/bin" && "$0/off/bin/linetab-object" verify x' "$work"
 }
 
+# What Python compiles is kept whole or not at all, where files may only be small: else no later start could read it.
+kept() {
+  local size folder=$work/compiled
+  mkdir "$folder" && cp -r "$work/bin" "$work/share" "$folder"
+  for size in 0 1 2 4 8 16; do
+    find "$folder" -name __pycache__ -exec rm -r {} +
+    (ulimit -f $size; PYTHONDONTWRITEBYTECODE= "$folder/bin/linetab-object" --version) >/dev/null 2>&1
+    expect "a start where files of $size kB may be written, and one after it" 0 "$(object --version)"$'\n' '' "$folder/bin/linetab-object" --version
+    expect "which leaves nothing half" 0 '' '' find "$folder" -path '*__pycache__/*' ! -name '*.pyc'
+  done
+  expect 'a start that may write keeps what was compiled' 0 $'command.py\n' '' \
+    bash -c 'PYTHONDONTWRITEBYTECODE= "$0/bin/linetab-object" --version >/dev/null; cd "$0/share/linetab/scripts/object" &&
+      ls __pycache__ | sed -n "s/^\(command\)[.].*pyc$/\1.py/p"' "$folder"
+}
+
 # Standard input as a file.
 standard_input() {
   expect 'standard input, a file' 0 "$table" '' object table - <"$work/elf64"
@@ -743,6 +758,7 @@ PATH=$(dirname "$(python3 -c 'import sys; print(sys.executable)')"):$PATH
 formats
 words
 usage
+kept
 standard_input
 outputs
 little_memory
