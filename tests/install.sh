@@ -31,6 +31,17 @@ installed() { # PREFIX [COMMAND]
 }
 expect 'a prefix' 0 "$(installed "$prefix")"$'\n' '' ./install "$prefix"
 
+# The modules of the scripts are compiled where they are installed, and not where they are staged.
+modules_in() { # FOLDER NAME
+  (cd "$1/scripts" && find . -name "$2" ! -path './__init__.*' | sed -E 's,__pycache__/,,; s,[.](cpython.*)?pyc?$,,' | LC_ALL=C sort)
+}
+compiled() {
+  expect 'with compiled modules' 0 "$(installed "$work/compiled")"$'\n' '' env PYTHONDONTWRITEBYTECODE= ./install "$work/compiled"
+  same 'each module' "$(modules_in share '*.py')" "$(modules_in "$work/compiled/share/linetab" '*.pyc')"
+  expect 'which are removed too' 0 '' '' bash -c './install --uninstall "$0" >/dev/null && find "$0" -type f' "$work/compiled"
+  expect 'none below DESTDIR' 0 '' '' bash -c 'PYTHONDONTWRITEBYTECODE= DESTDIR=$0 ./install staged >/dev/null && find "$0" -name "*.pyc"' "$work/compiled"
+}
+
 # A package is made below DESTDIR, and what is told can be typed.
 staged() {
   local stage="$work/a stage" quoted="$work/a\\ stage"
@@ -353,6 +364,7 @@ helps() {
   expect 'the help of a test' 0 "$(sed -n '2s/^# //p' tests/install.sh)"$'\n' '' bash -c 'tests/install.sh --help | head -n 1'
 }
 
+compiled
 staged
 in_the_way
 documents
