@@ -97,6 +97,14 @@ sed -n '/^```python$/,/^```$/{/^```/!p}' docs/TABLES.md >"$work/page.py"
 expect "a table of one's own" 0 '' '' bash -c 'cd "$0" && python3 "$1"' "$there" "$work/page.py"
 expect 'it is the one that is printed' 0 "$(<"$there/mine.csv")"$'\n' '' \
   ./linetab table --lines examples/hello.debug_line --line-str examples/hello.debug_line_str
+if here "a table of a database's own" sqlite3; then
+  (cd "$there" && { cat "$work/page.py"
+    printf '%s\n' 'import sqlite3' 'with sqlite3.connect("spans.db") as base:' \
+      '    base.execute("create table spans (low integer primary key, size integer, path text, line integer)")' \
+      '    base.executemany("insert into spans values (?, ?, ?, ?)", known)'; } | python3 -)
+  expect "a table of a database's own" 0 "$(<"$there/mine.csv")"$'\n' '' \
+    bash -c 'cd "$0" && eval "$(grep -o "sqlite3 -csv[^\`]*" "$1")" | tr -d "\r"' "$there" "$top/docs/TABLES.md"
+fi
 if here 'what other tools say of a program' cc; then
   echo 'int main(int n, char **v) { return n - 1; }' >"$there/app.c"
   expect 'a program with code' 0 '' '' cc -g -gdwarf-5 -o "$there/app" "$there/app.c"
