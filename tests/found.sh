@@ -186,16 +186,23 @@ asked_before() {
 }
 
 verified_directory() {
-  local tool
-  here 'a directory that is not there' cc || return
+  local file tool
+  here 'a directory that is not there' cc objcopy || return
   sources verify-directory
   cc -nostdlib -o "$build/app" "$build/dir.s" 2>/dev/null || { skip 'a directory that is not there: dir.s is of x86-64'; return; }
-  expect 'a directory that is not there' 1 $'no 29 directory number unit 0x0 file 0\n' '' "$object" verify "$build/app"
+  cc -nostdlib -Wa,-defsym,directory=2 -o "$build/named" "$build/dir.s" && objcopy --remove-section .debug_info "$build/named" "$build/unnamed"
+  for file in app named unnamed; do
+    expect "a directory that is not there: $file" 1 $'no 29 directory number unit 0x0 file 0\n' '' "$object" verify "$build/$file"
+  done
   [ -n "$(commands llvm-dwarfdump)" ] || skip "llvm-dwarfdump isn't here: a directory that is not there"
   for tool in $(commands llvm-dwarfdump); do
-    tool_says "a directory that is not there by $tool" 'No errors.' 'Errors detected.' bash -c '"$0" --verify "$1" 2>&1 | tail -n 1' \
-      "$tool" "$build/app"
+    tool_says "a directory that is not there by $tool" 'No errors.' 'Errors detected.' verified "$tool" "$build/app"
+    expect "the second that is not there by $tool" 0 $'Errors detected.\n' '' verified "$tool" "$build/named"
+    tool_says "the same, which no unit names, by $tool" 'No errors.' 'Errors detected.' verified "$tool" "$build/unnamed"
   done
+}
+verified() { # COMMAND FILE
+  "$1" --verify --debug-line "$2" 2>&1 | tail -n 1
 }
 
 gsym_declaration

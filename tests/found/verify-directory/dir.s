@@ -1,4 +1,7 @@
-# Code of two rows. Its file is in directory 1, and the only directory is number 0.
+# Code of two rows. Its file is in directory 1, or the one that is asked for, and the only directory is number 0.
+        .ifndef directory
+        .set directory, 1
+        .endif
         .text
         .globl _start
 _start:
@@ -33,7 +36,7 @@ tables: .byte 1, 1, 1, -5, 14, 13, 0, 1, 1, 1, 1, 0, 0, 0, 1, 0, 0, 1
         .uleb128 1, 8, 2, 0xf
         .uleb128 1              # one file
         .asciz "a.c"
-        .uleb128 1
+        .uleb128 directory
 operations:
         .byte 0
         .uleb128 9
