@@ -1,6 +1,6 @@
 """changed.py COUNT FILE..: does as linetab-object does with each FILE, COUNT times with some bytes that are others, with --older and
-without. Each run ends with a status or a refusal, within a second and 64 MB. Anything else is told. The program isn't started: its
-answers are made up."""
+without. Each run ends with a status or a refusal, within a second of processor time, a minute in all, and 64 MB. Anything else is told.
+The program isn't started: its answers are made up."""
 
 import importlib
 import os
@@ -23,7 +23,7 @@ NOTES = (b"", b"linetab: note: no sequence begins at 0x0,\n", b"linetab: note: t
 
 
 class Late(BaseException):
-    """A run takes a second."""
+    """A run takes too long."""
 
 
 def late(*_):
@@ -94,7 +94,8 @@ class Nowhere:
 
 def tried(refusal, answer, path, seed):
     """Runs a word on the file."""
-    signal.setitimer(signal.ITIMER_REAL, 1)
+    signal.setitimer(signal.ITIMER_PROF, 1)
+    signal.alarm(60)
     try:
         answer(path)
     except refusal:
@@ -103,13 +104,15 @@ def tried(refusal, answer, path, seed):
         print("%s, seed %d: %r" % (sys.argv[2], seed, error))
         raise
     finally:
-        signal.setitimer(signal.ITIMER_REAL, 0)
+        signal.setitimer(signal.ITIMER_PROF, 0)
+        signal.alarm(0)
 
 
 def main():
     chance = random.Random()
     refusal, answer = loaded(chance)
-    signal.signal(signal.SIGALRM, late)
+    for number in (signal.SIGPROF, signal.SIGALRM):
+        signal.signal(number, late)
     with open("/proc/self/statm", "rb") as statm:
         limit = int(statm.read().split()[0]) * resource.getpagesize() + (64 << 20)
     resource.setrlimit(resource.RLIMIT_AS, (limit, limit))

@@ -618,7 +618,7 @@ cuts() {
   done
 }
 
-# Files of which some bytes are others end in an answer or a line as well, each within a second and 64 MB.
+# Files of which some bytes are others end in an answer or a line as well, each in little time and 64 MB.
 changes() {
   local format
   cat "$work/old2" examples/gc-sections.debug_line "$work/old4" "$work/ones" >"$work/mixed"
