@@ -210,16 +210,27 @@ def files_by_turns(count):
     return one_path(ONE_DIRECTORY + files, [row % 9 for row in range(count // 2)], b"/s/" + name)
 
 
-def units_by_turns(count):
-    """Sequences of five units by turns, each with a copy of the same path of many bytes."""
-    tables, rows = long_directory(count) + TWO_FILES, count // 16
-    programs = (b"".join(sequence(0x1001 + 16 * row) for row in range(unit, rows, 5)) for unit in range(5))
-    path = b"/" + b"s" * count + b"/a"
+def copies_of_a_path(count, length, units, unit_of):
+    """Sequences of so many units, in the order that a function gives, each unit with a copy of the same path of as many bytes."""
+    tables, rows, programs = long_directory(length) + TWO_FILES, count // 16, [[] for unit in range(units)]
+    for row in range(rows):
+        programs[unit_of(row)].append(sequence(0x1001 + 16 * row))
+    path = b"/" + b"s" * length + b"/a"
     return {
-        "line": b"".join(PLAIN.unit(tables, program) for program in programs),
+        "line": b"".join(PLAIN.unit(tables, b"".join(program)) for program in programs),
         "table": one_span(16 * rows, path),
         "other": one_span(16 * rows, path + b"x"),
     }
+
+
+def units_by_turns(count):
+    """Those of five units by turns."""
+    return copies_of_a_path(count, count, 5, lambda row: row % 5)
+
+
+def units_that_meet(count):
+    """Those of many units, of which any two meet."""
+    return copies_of_a_path(count, count // 199, 199, lambda row: row * (1 + row // 199 % 198) % 199)
 
 
 def older(files):
@@ -588,6 +599,7 @@ SAME_PATHS = [
     ("files of five copies of a long name", strings_by_turns, 200_000, True),
     ("nine files with long names by turns", files_by_turns, 1_000_000, False),
     ("five units with a long path by turns", units_by_turns, 1_000_000, False),
+    ("many units with a long path, of which any two meet", units_that_meet, 500_000, False),
 ]
 SAME_PATH_WORDS = [
     ("table LINE --lines", 0),

@@ -1,8 +1,12 @@
 -- What is remembered of paths that were compared.
-use Rattle.std.specs.Prelude.{◌≡◌, ◌≢◌, ℕ, List, Option, IfSome, MatchBool, All}
+use Rattle.std.specs.Prelude.{◌≡◌, ◌≢◌, ◌+◌, ◌*◌, ◌%◌, ◌^◌, ℕ, nat_le, List, Option, length, if◌then◌else◌, IfSome, MatchBool, All}
+use Rattle.std.specs.List.{fold}
+use Rattle.std.specs.BTreeMap.{BTreeMap, get}
+use Rattle.std.specs.Ordering.{nat_cmp}
 use Rattle.lnt_records.specs.declared.by_path.kept.FileText.{FileText}
 use Rattle.lnt_records.specs.declared.by_path.kept.FileTexts.{FileTexts}
 use Rattle.lnt_records.specs.declared.by_path.alike.ComparedFiles.{ComparedFiles}
+use Rattle.lnt_records.specs.declared.by_path.summed.SummedFile.{SummedFile}
 use Rattle.lnt_records.specs.declared.by_path.told.ToldFile.{ToldFile}
 
 -- For each file in a slot, it is remembered correctly whether its path is this one.
@@ -24,3 +28,20 @@ abbrev pub ArePairsOf : (ℕ → ℕ → List ℕ) → List (Option ComparedFile
 ArePairsOf path slots = All (λ slot. IfSome slot (λ pair. MatchBool pair.same
     (path pair.one.unit pair.one.file ≡ path pair.other.unit pair.other.file)
     (path pair.one.unit pair.one.file ≢ path pair.other.unit pair.other.file))) slots
+
+-- the sum of a text, when one more byte comes
+abbrev pub more_sum : ℕ → ℕ → ℕ
+more_sum sum byte = ((sum * 1099511628211) % 2 ^ 64 + byte) % 2 ^ 64
+
+-- the sum of a text: 0 of a short one, and of a long one a number that few others have
+abbrev pub text_sum : List ℕ → ℕ
+text_sum text = if nat_le (length text) 256 then 0 else fold more_sum 0 text
+
+-- This is the sum of the text of a file, and another file has the same text.
+pub record IsSummed (text_of : ℕ → ℕ → List ℕ) (summed : SummedFile) : Type 0 where
+  pub sum : summed.sum ≡ text_sum (text_of summed.file.unit summed.file.file)
+  pub first : text_of summed.first.unit summed.first.file ≡ text_of summed.file.unit summed.file.file
+
+-- That is so of each file in the tree.
+abbrev pub AreSummed : (ℕ → ℕ → List ℕ) → BTreeMap ℕ SummedFile → Type 0
+AreSummed text_of tree = (number : ℕ) → IfSome (get nat_cmp tree number) (IsSummed text_of)

@@ -10,7 +10,7 @@ use Rattle.lnt_spans.specs.declared.answer.Answer.{Answer}
 use Rattle.lnt_spans.specs.declared.span.Span.{Span}
 use Rattle.lnt_records.specs.declared.by_path.fields.PathFields.{PathFields}
 use Rattle.lnt_records.specs.declared.by_path.version.PathVersion.TheVariants.{Four, Three}
-use Rattle.lnt_records.specs.KeptPaths.{ArePairsOf, AreTextsOf}
+use Rattle.lnt_records.specs.KeptPaths.{ArePairsOf, AreSummed, AreTextsOf}
 use Rattle.lnt_records.specs.declared.by_path.record.PathRecord.{PathRecord}
 
 -- A record of the span without leading zeros and with letters in lower case.
@@ -36,9 +36,10 @@ pub record IsPlainByte (byte : ℕ) : Type 0 where
 abbrev pub path_field : (ℕ → ℕ → List ℕ) → ℕ → ℕ → List ℕ
 path_field path unit file = field_with_comma (path unit file)
 
--- Every field is that of its file, and it is remembered correctly which files have the same path, if these are the paths of files.
+-- Every field and sum is that of its file, and it is remembered correctly which files have the same path, if these are the paths of files.
 pub record AreFieldsOf (path : ℕ → ℕ → List ℕ) (fields : PathFields) : Type 0 where
   pub texts : AreTextsOf (path_field path) fields.texts
+  pub sums : AreSummed (path_field path) fields.sums.tree
   pub pairs : ArePairsOf path fields.alike.pairs.items
 
 -- the lines of spans, with only the addresses of their positions

@@ -9,6 +9,7 @@ mod line;
 mod paths;
 mod plain;
 mod record;
+mod summed;
 mod told;
 mod version;
 

@@ -71,7 +71,7 @@ impl AlikeFiles {
             return Ok(());
         }
         self.pairs = no_pairs(alloc)?;
-        self.firsts = no_files(alloc)?;
+        self.firsts = vec![in alloc; None; 1 << BITS]?;
         Ok(())
     }
 
@@ -127,15 +127,6 @@ fn no_pairs(alloc: Global) -> Result<Vec<Option<ComparedFiles>>, AllocError>
         pairs.push(None)?;
     }
     Ok(pairs)
-}
-
-// Slots without a file.
-fn no_files(alloc: Global) -> Result<Vec<Option<NamedFile>>, AllocError> {
-    let mut files = Vec::with_capacity(alloc, 1 << BITS)?;
-    for _ in 0..1 << BITS {
-        files.push(None)?;
-    }
-    Ok(files)
 }
 
 // The slot that a number selects.

@@ -1,12 +1,13 @@
 //! Caches the paths of files as fields of a record, and which files have the same path.
 ghost use Rattle.std.specs.Prelude.{◌≡◌, ◌≢◌, ℕ, List, IfOk, OnOk, MatchBool};
-ghost use Rattle.lnt_records.specs.KeptPaths.{IsTextOf};
+ghost use Rattle.lnt_records.specs.KeptPaths.{IsSummed, IsTextOf};
 ghost use Rattle.lnt_records.specs.PathLines.{AreFieldsOf, path_field};
 
 use crate::by_path::alike::{AlikeFiles, NamedFile};
 use crate::by_path::field::field_of;
 use crate::by_path::kept::{FileText, FileTexts};
 use crate::by_path::paths::Paths;
+use crate::by_path::summed::{SHORT, SummedFile, SummedFiles, sum_of};
 use lnt_spans::Answer;
 use std::alloc::{AllocError, Global};
 
@@ -21,6 +22,7 @@ const LONGEST: usize = 8192;
 #[derive(Drop)]
 pub struct PathFields {
     texts: FileTexts,
+    sums: SummedFiles,
     alike: AlikeFiles,
 }
 
@@ -30,8 +32,9 @@ impl PathFields {
         ensures { IfOk result (λ fields. (path : ℕ → ℕ → List ℕ) → AreFieldsOf path fields) }
     {
         let texts = FileTexts::new(alloc, FIELDS, LONGEST)?;
+        let sums = SummedFiles::empty(alloc);
         let alike = AlikeFiles::empty(alloc);
-        Ok(PathFields { texts, alike })
+        Ok(PathFields { texts, sums, alike })
     }
 
     /// The path of the file that an answer names, as a field. It is taken out, if it is kept.
@@ -101,12 +104,32 @@ impl PathFields {
         if let Some(same) = self.alike.recall(one, other) {
             return Ok(same);
         }
+        if let Some(same) = self.sums.same(one, other) {
+            return Ok(same);
+        }
         self.alike.make_slots(alloc)?;
-        let first = self.alike.first_of(paths, one);
-        let second = self.alike.first_of(paths, other);
+        let first = self.first_of(paths, one)?;
+        let second = self.first_of(paths, other)?;
         let same = self.same_first(alloc, paths, first, second)?;
         self.alike.remember(one, other, same);
         Ok(same)
+    }
+
+    // A file with the same path, which stands for those with the same texts. What is known of that one is known of this file then.
+    fn first_of<P: Paths>(&mut self, paths: &P, file: NamedFile) -> Result<NamedFile, AllocError>
+        requires { AreFieldsOf (P.bytes_of paths.now) self.old }
+        ensures kept { OnOk result (AreFieldsOf (P.bytes_of paths.now) self.new) }
+        ensures same { IfOk result (λ first. P.bytes_of paths.now first.unit first.file ≡ P.bytes_of paths.now file.unit file.file) }
+    {
+        let first = self.alike.first_of(paths, file);
+        if let Some(known) = self.sums.of_file(first) {
+            self.sums.keep(SummedFile {
+                file,
+                sum: known.sum,
+                first: known.first,
+            })?;
+        }
+        Ok(first)
     }
 
     // Does the same for two files of which each stands for those with the same texts.
@@ -129,29 +152,100 @@ impl PathFields {
         if let Some(same) = self.alike.recall(one, other) {
             return Ok(same);
         }
-        if paths.same_texts(one.unit, one.file, other.unit, other.file) {
-            self.alike.remember(one, other, true);
-            return Ok(true);
-        }
-        let first = self.take_file(alloc, paths, one.unit, one.file)?;
-        let second = self.take_file(alloc, paths, other.unit, other.file)?;
-        let same = first.is_text(&second.text);
-        self.keep_both(first, second, same);
+        let same = self.same_field(alloc, paths, one, other)?;
         self.alike.remember(one, other, same);
         Ok(same)
     }
 
-    // Keeps the fields of two files, and last the one with which the next is likely to be compared: the second, if it is another.
-    fn keep_both(&mut self, first: FileText, second: FileText, same: bool)
-        ensures { (path : ℕ → ℕ → List ℕ) → AreFieldsOf path self.old → IsTextOf (path_field path) first
-            → IsTextOf (path_field path) second → AreFieldsOf path self.new }
+    // Does the same by their fields: by the bytes of short ones, and of long ones if their sums don't tell.
+    fn same_field<P: Paths>(
+        &mut self,
+        alloc: Global,
+        paths: &P,
+        one: NamedFile,
+        other: NamedFile,
+    ) -> Result<bool, AllocError>
+        requires { AreFieldsOf (P.bytes_of paths.now) self.old }
+        ensures kept { OnOk result (AreFieldsOf (P.bytes_of paths.now) self.new) }
+        ensures same { IfOk result (λ same. MatchBool same
+            (P.bytes_of paths.now one.unit one.file ≡ P.bytes_of paths.now other.unit other.file)
+            (P.bytes_of paths.now one.unit one.file ≢ P.bytes_of paths.now other.unit other.file)) }
     {
-        if same {
-            self.texts.keep(second);
-            self.texts.keep(first);
-        } else {
-            self.texts.keep(first);
-            self.texts.keep(second);
+        let first = self.summed(alloc, paths, one)?;
+        let second = self.summed(alloc, paths, other)?;
+        if let Some(same) = first.is_same(second) {
+            return Ok(same);
         }
+        let field = self.take_file(alloc, paths, other.unit, other.file)?;
+        let same = self.is_field(alloc, paths, one, &field.text)?;
+        self.texts.keep(field);
+        Ok(same)
+    }
+
+    // What is known of a file, which is kept if its field is long.
+    fn summed<P: Paths>(
+        &mut self,
+        alloc: Global,
+        paths: &P,
+        file: NamedFile,
+    ) -> Result<SummedFile, AllocError>
+        requires { AreFieldsOf (P.bytes_of paths.now) self.old }
+        ensures kept { OnOk result (AreFieldsOf (P.bytes_of paths.now) self.new) }
+        ensures file { IfOk result (λ summed. (summed.file.unit ≡ file.unit) × (summed.file.file ≡ file.file)) }
+        ensures summed { IfOk result (IsSummed (path_field (P.bytes_of paths.now))) }
+    {
+        if let Some(summed) = self.sums.of_file(file) {
+            return Ok(summed);
+        }
+        let field = self.take_file(alloc, paths, file.unit, file.file)?;
+        let sum = sum_of(&field.text);
+        let first = self.first_with(alloc, paths, file, sum, &field.text)?;
+        let summed = SummedFile { file, sum, first };
+        if field.text.len() > SHORT {
+            self.sums.keep(summed)?;
+        }
+        self.texts.keep(field);
+        Ok(summed)
+    }
+
+    // The first file with the field of this one, which has this sum.
+    fn first_with<P: Paths>(
+        &mut self,
+        alloc: Global,
+        paths: &P,
+        file: NamedFile,
+        sum: u64,
+        field: &[u8],
+    ) -> Result<NamedFile, AllocError>
+        requires kept { AreFieldsOf (P.bytes_of paths.now) self.old }
+        requires field { field.now ≡ path_field (P.bytes_of paths.now) file.unit file.file }
+        ensures kept { OnOk result (AreFieldsOf (P.bytes_of paths.now) self.new) }
+        ensures same { IfOk result (λ first. path_field (P.bytes_of paths.now) first.unit first.file ≡ field.now) }
+    {
+        if let Some(first) = self.sums.with_sum(sum) {
+            if self.is_field(alloc, paths, first, field)? {
+                return Ok(first);
+            }
+        }
+        Ok(file)
+    }
+
+    // Whether this is the field of a file.
+    fn is_field<P: Paths>(
+        &mut self,
+        alloc: Global,
+        paths: &P,
+        file: NamedFile,
+        field: &[u8],
+    ) -> Result<bool, AllocError>
+        requires { AreFieldsOf (P.bytes_of paths.now) self.old }
+        ensures kept { OnOk result (AreFieldsOf (P.bytes_of paths.now) self.new) }
+        ensures same { IfOk result (λ same. MatchBool same (path_field (P.bytes_of paths.now) file.unit file.file ≡ field.now)
+            (path_field (P.bytes_of paths.now) file.unit file.file ≢ field.now)) }
+    {
+        let made = self.take_file(alloc, paths, file.unit, file.file)?;
+        let same = made.is_text(field);
+        self.texts.keep(made);
+        Ok(same)
     }
 }
