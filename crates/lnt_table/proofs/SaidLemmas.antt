@@ -12,7 +12,7 @@ use Rattle.lnt_spans.specs.Positions.{IsAtMost, IsBelow}
 use Rattle.lnt_spans.specs.Remaining.{GivesFirstSpan, SpansAreLeft}
 use Rattle.lnt_spans.specs.Spans.{AreInOrder, number_spans, span_answer}
 use Rattle.lnt_spans.proofs.AnsweringLaws.{answer_after, answer_in, none_before, rest_in_order}
-use Rattle.lnt_spans.proofs.PositionLaws.{at_most_trans, order_cases, same_position}
+use Rattle.lnt_spans.proofs.PositionLaws.{at_most_trans, not_both, order_cases, same_position}
 use Rattle.lnt_table.specs.declared.said.SequenceSpans.{SequenceSpans}
 use Rattle.lnt_table.specs.Said.{AnswersFrom, NoneSays, OneSays, Says, StillAnswer}
 
@@ -36,6 +36,24 @@ none_left : {S : Type 0} (to_come : S → List Span → Type 0) (next : Option S
     → SpansAreLeft to_come next spans list → list ≡ []
 none_left to_come next spans [] e l = refl
 none_left to_come next spans (first ∷ rest) e l = let no : None ≡ Some first = sym e ∙ l.0 in cc no
+
+-- a span isn't empty
+first_lasts : (span : Span) (rest : List Span) → AreInOrder (span ∷ rest) → IsBelow span.low span.high
+first_lasts span [] order = order
+first_lasts span (next ∷ rest) order = order.0
+
+-- Where nothing is answered, nothing is said.
+pub none_says : {X : Type 0} (tell : Answer → X) (told : X) (answers : Position → Option Answer) (p : Position) → answers p ≡ None
+    → Says tell told answers p → ⊥
+none_says tell told answers p none says = let no : None ≡ Some told = sym (ap (option_map tell) none) ∙ says in cc no
+
+pub some_says : {X : Type 0} (tell : Answer → X) (told : X) (answers : Position → Option Answer) (p : Position) (answer : Answer)
+    → answers p ≡ Some answer → tell answer ≡ told → Says tell told answers p
+some_says tell told answers p answer some same = ap (option_map tell) some ∙ ap (λ x. Some x) same
+
+pub said_answer : {X : Type 0} (tell : Answer → X) (told : X) (answers : Position → Option Answer) (p : Position) (answer : Answer)
+    → answers p ≡ Some answer → Says tell told answers p → tell answer ≡ told
+said_answer tell told answers p answer some says = same_Some (tell answer) told (sym (ap (option_map tell) some) ∙ says)
 
 module _ {S : Type 0} (to_come : S → List Span → Type 0) (old : SequenceSpans S) (at : Position) (answers : Position → Option Answer)
     (h : AnswersFrom to_come old at answers) where
@@ -76,18 +94,32 @@ module _ {S : Type 0} (to_come : S → List Span → Type 0) (old : SequenceSpan
   none_more p none le =
       sym (h.same p le) ∙ ap (λ (xs : List Span). span_answer xs p) (none_left to_come old.next old.spans h.list none h.left)
 
--- Where nothing is answered, nothing is said.
-pub none_says : {X : Type 0} (tell : Answer → X) (told : X) (answers : Position → Option Answer) (p : Position) → answers p ≡ None
-    → Says tell told answers p → ⊥
-none_says tell told answers p none says = let no : None ≡ Some told = sym (ap (option_map tell) none) ∙ says in cc no
+  module _ {X : Type 0} (tell : Answer → X) (told : X) (span : Span) (some : old.next ≡ Some span) where
+    -- nothing is said before it
+    pub unsaid_before : (low p : Position) → (low ≡ span.low) ⊎ (low ≡ at) → IsAtMost at p → IsBelow p low
+        → Says tell told answers p → ⊥
+    unsaid_before low p (inl same) le lt = none_says tell told answers p (none_yet span p some le (subst (IsBelow p) same lt))
+    unsaid_before low p (inr same) le lt = absurd (not_both (subst (IsBelow p) same lt) le)
 
-pub some_says : {X : Type 0} (tell : Answer → X) (told : X) (answers : Position → Option Answer) (p : Position) (answer : Answer)
-    → answers p ≡ Some answer → tell answer ≡ told → Says tell told answers p
-some_says tell told answers p answer some same = ap (option_map tell) some ∙ ap (λ x. Some x) same
+    -- nor up to its end, if it doesn't say it
+    pub unsaid_with : (p : Position) → (tell span.answer ≡ told → ⊥) → IsAtMost at p → IsBelow p span.high
+        → Says tell told answers p → ⊥
+    unsaid_with p other le lt says = elim (order_cases p span.low) [
+      | inl early ↦ none_says tell told answers p (none_yet span p some le early) says
+      | inr late ↦ other (said_answer tell told answers p span.answer (answers_in span p some le late lt) says)
+    ]
 
-pub said_answer : {X : Type 0} (tell : Answer → X) (told : X) (answers : Position → Option Answer) (p : Position) (answer : Answer)
-    → answers p ≡ Some answer → Says tell told answers p → tell answer ≡ told
-said_answer tell told answers p answer some says = same_Some (tell answer) told (sym (ap (option_map tell) some) ∙ says)
+    -- if it does, it says so where it begins, or at the position from which on it is asked
+    pub said_first : (low : Position) → (low ≡ span.low) ⊎ (low ≡ at) → IsAtMost span.low low → IsAtMost at low → IsBelow at span.high
+        → tell span.answer ≡ told → Says tell told answers low
+    said_first low either past from ends same =
+        some_says tell told answers low span.answer (answers_in span low some from past (is_below either)) same
+      where
+        is_below : (low ≡ span.low) ⊎ (low ≡ at) → IsBelow low span.high
+        is_below (inl here) =
+            let one = first_left to_come old.next old.spans h.list span some h.left in
+            subst (λ (q : Position). IsBelow q span.high) (sym here) (first_lasts span one.0 (subst AreInOrder one.1 h.order))
+        is_below (inr here) = subst (λ (q : Position). IsBelow q span.high) (sym here) ends
 
 -- ---- several sequences
 

@@ -2,15 +2,16 @@
 -- answer is that of any live sequence that holds it.
 --     line, general    the bytes of .debug_line_str and of .debug_str
 --     section, table   the bytes of .debug_line, and those of the address table
-use Rattle.std.specs.Prelude.{◌≡◌, ◌≢◌, ◌⊎◌, ℕ, true, List, Option, None}
+use Rattle.std.specs.Prelude.{◌≡◌, ◌≢◌, ◌⊎◌, ℕ, true, List, [], ◌∷◌, Option, None}
+use Rattle.std.specs.List.{AllByRecursion}
 use Rattle.lnt_header.specs.declared.unit_parts.UnitParts.{UnitParts}
 use Rattle.lnt_spans.specs.declared.answer.Version.{Version}
 use Rattle.lnt_spans.specs.declared.answer.Answer.{Answer}
 use Rattle.lnt_spans.specs.declared.position.Position.{Position}
 use Rattle.lnt_spans.specs.Answers.{in_version}
-use Rattle.lnt_spans.specs.AnyStretches.{Stretch}
+use Rattle.lnt_spans.specs.AnyStretches.{AreAnswers, AreRising, Stretch}
 use Rattle.lnt_spans.specs.Partial.{AreCounts}
-use Rattle.lnt_spans.specs.Positions.{IsBelow}
+use Rattle.lnt_spans.specs.Positions.{IsAtMost, IsBelow}
 use Rattle.lnt_spans.specs.SpanKinds.{answer_held}
 use Rattle.lnt_sequences.specs.Copies.{IsAnyAnswer}
 use Rattle.lnt_records.specs.declared.by_path.version.PathVersion.{PathVersion}
@@ -47,6 +48,64 @@ pub record IsFirstWrong {X : Type 0} (scope : Scope) (said : Position → Option
   pub table : first.by_table ≡ by_table first.position
   pub wrong : IsRightIn scope said by_table first.position → ⊥
   pub least : (p : Position) → IsBelow p first.position → IsRightIn scope said by_table p
+
+-- ---- each stretch of positions at which the table isn't right
+
+-- At p the table isn't right, and both answers are those of the stretch.
+pub record IsWrongWith {X : Type 0} (scope : Scope) (said : Position → Option X → Type 0) (by_section by_table : Position → Option X)
+    (stretch : Stretch X) (p : Position) : Type 0 where
+  pub wrong : IsRightIn scope said by_table p → ⊥
+  pub here : AreAnswers by_section by_table stretch.by_section stretch.by_table p
+
+-- So it is at each position in the half-open range from `from` up to `to`.
+abbrev pub StayWrong : {X : Type 0} → Scope → (Position → Option X → Type 0) → (Position → Option X) → (Position → Option X) → Stretch X
+    → Position → Position → Type 0
+StayWrong scope said by_section by_table stretch from to =
+    (p : Position) → IsAtMost from p → IsBelow p to → IsWrongWith scope said by_section by_table stretch p
+
+-- The stretch begins here: the table isn't right, and there is no lower position from which on it was wrong so.
+pub record BeginsWrong {X : Type 0} (scope : Scope) (said : Position → Option X → Type 0) (by_section by_table : Position → Option X)
+    (stretch : Stretch X) : Type 0 where
+  pub here : IsWrongWith scope said by_section by_table stretch stretch.position
+  pub longest : (p : Position) → IsBelow p stretch.position
+      → StayWrong scope said by_section by_table stretch p stretch.position → ⊥
+
+-- The stretch that begins there holds p: from its first position up to and including p the table is wrong so.
+pub record IsInWrong {X : Type 0} (scope : Scope) (said : Position → Option X → Type 0) (by_section by_table : Position → Option X)
+    (stretch : Stretch X) (p : Position) : Type 0 where
+  pub past : IsAtMost stretch.position p
+  pub stay : StayWrong scope said by_section by_table stretch stretch.position p
+  pub here : IsWrongWith scope said by_section by_table stretch p
+
+-- This is the first position after the stretch: up to it the table is wrong so, and there it isn't.
+pub record EndsWrong {X : Type 0} (scope : Scope) (said : Position → Option X → Type 0) (by_section by_table : Position → Option X)
+    (stretch : Stretch X) (end : Position) : Type 0 where
+  pub past : IsBelow stretch.position end
+  pub stay : StayWrong scope said by_section by_table stretch stretch.position end
+  pub over : IsWrongWith scope said by_section by_table stretch end → ⊥
+
+-- At p the table is right, or one of the stretches holds p.
+abbrev pub IsRightOrIn : {X : Type 0} → Scope → (Position → Option X → Type 0) → (Position → Option X) → (Position → Option X)
+    → List (Stretch X) → Position → Type 0
+IsRightOrIn scope said by_section by_table [] p = IsRightIn scope said by_table p
+IsRightOrIn scope said by_section by_table (stretch ∷ stretches) p =
+    IsInWrong scope said by_section by_table stretch p ⊎ IsRightOrIn scope said by_section by_table stretches p
+
+-- These are exactly the stretches, in ascending order: the longest runs of positions at which the table isn't right, with the same two
+-- answers.
+pub record AreAllWrong {X : Type 0} (scope : Scope) (said : Position → Option X → Type 0) (by_section by_table : Position → Option X)
+    (stretches : List (Stretch X)) : Type 0 where
+  pub each : AllByRecursion (BeginsWrong scope said by_section by_table) stretches
+  pub rising : AreRising stretches
+  pub all : (p : Position) → IsRightOrIn scope said by_section by_table stretches p
+
+-- These are the first of them: none but these begins at or below the last one.
+pub record AreFirstWrong {X : Type 0} (scope : Scope) (said : Position → Option X → Type 0) (by_section by_table : Position → Option X)
+    (stretches : List (Stretch X)) : Type 0 where
+  pub each : AllByRecursion (BeginsWrong scope said by_section by_table) stretches
+  pub rising : AreRising stretches
+  pub below : AllByRecursion (λ stretch. (p : Position) → IsBelow p stretch.position
+      → IsRightOrIn scope said by_section by_table stretches p) stretches
 
 -- ---- a table of a kind, and a section that gives these answers in the fields of each version, and in which these may be given
 

@@ -1,11 +1,11 @@
--- What the bodies of this crate say of a table that is asked stretch by stretch. No public contract speaks of it.
-use Rattle.std.specs.Prelude.{◌≡◌, ℕ, ◌+◌, ◌<◌, List, [], ◌∷◌, length, get_or, map, Option, Some, None, MatchOption, Contains}
-use Rattle.std.specs.List.{AllByRecursion}
+-- What is said of asking the live sequences for the answers of a table, stretch by stretch.
+use Rattle.std.specs.Prelude.{◌≡◌, ℕ, ◌+◌, ◌<◌, Bool, true, false, List, [], ◌∷◌, length, get_or, Option, Some, None}
+use Rattle.std.specs.Prelude.{Contains, MatchOption}
 use Rattle.lnt_spans.specs.declared.position.Position.{Position}
-use Rattle.lnt_spans.specs.AnyStretches.{IsInStretch, Stretch}
+use Rattle.lnt_spans.specs.AnyStretches.{Stretch}
 use Rattle.lnt_spans.specs.Partial.{AreCounts}
 use Rattle.lnt_spans.specs.Positions.{IsAtMost, IsBelow}
-use Rattle.lnt_sequences.specs.Copies.{AreExtentsOf, IsAnyAnswer}
+use Rattle.lnt_sequences.specs.Copies.{AreExtentsOf}
 use Rattle.lnt_sequences.specs.declared.extent.Extent.{Extent}
 use Rattle.lnt_sequences.specs.Sequences.{answer_in, live_sequences, Placed, Selection}
 use Rattle.lnt_lines.specs.Cursors.{AreToCome, Cursor}
@@ -16,6 +16,7 @@ use Rattle.lnt_table.specs.declared.within.Scope.TheVariants.{All, Answered}
 use Rattle.lnt_table.specs.declared.asked.Asked.{Asked}
 use Rattle.lnt_table.specs.declared.asked.Asked.TheVariants.{Right, Wrong}
 use Rattle.lnt_table.specs.declared.said.SequenceSpans.{SequenceSpans}
+use Rattle.lnt_table.specs.declared.wrong.Piece.{Piece}
 use Rattle.lnt_table.specs.AnyCopy.{IsFirstWrong, IsRightIn}
 use Rattle.lnt_table.specs.Said.{AnswersFrom}
 use Rattle.lnt_table.specs.Groups.{IsGroup}
@@ -37,13 +38,24 @@ pub record IsLeastNot (IsSo : Position → Type 0) (low high position : Position
 abbrev pub FindsLeastNot : (Position → Type 0) → Position → Position → Option Position → Type 0
 FindsLeastNot IsSo low high found = MatchOption found (IsSoFrom IsSo low high) (IsLeastNot IsSo low high)
 
--- ---- stretches
+-- What is so of the positions that are passed until one is found at which this is so, if that is looked for, and else at which it isn't.
+abbrev pub IsPassed : Bool → Type 0 → Type 0
+IsPassed true IsSo = IsSo → ⊥
+IsPassed false IsSo = IsSo
 
--- At each position of these stretches the table is right.
-abbrev pub AreRightIn : {X : Type 0} → Scope → (Position → Option X → Type 0) → (Position → Option X) → (Position → Option X)
-    → List (Stretch X) → Type 0
-AreRightIn scope said by_section by_table stretches =
-    AllByRecursion (λ stretch. (p : Position) → IsInStretch by_section by_table stretch p → IsRightIn scope said by_table p) stretches
+-- ---- the next stretch
+
+-- From `low` up to `end` these are the first positions at which it isn't so: the least, and the first after it at which it is, or `end`.
+pub record IsPiece (IsSo : Position → Type 0) (low end : Position) (piece : Piece) : Type 0 where
+  pub least : IsLeastNot IsSo low end piece.low
+  pub past : IsBelow piece.low piece.high
+  pub upto : IsAtMost piece.high end
+  pub not_so : IsSoFrom (λ p. IsSo p → ⊥) piece.low piece.high
+  pub over : IsBelow piece.high end → (IsSo piece.high → ⊥) → ⊥
+
+-- Such positions were found; or it is so from `low` up to `end`.
+abbrev pub FindsPiece : (Position → Type 0) → Position → Position → Option Piece → Type 0
+FindsPiece IsSo low end found = MatchOption found (IsSoFrom IsSo low end) (IsPiece IsSo low end)
 
 -- ---- the copies of an index
 
@@ -73,16 +85,7 @@ IsAsked scope stretch said by_section by_table (Wrong wrong) = IsFirstWrong scop
 IsAsked scope stretch said by_section by_table (Right coverage) = ((p : Position) → IsRightIn scope said by_table p)
     × AreCounts by_table by_section coverage.answered coverage.all
 
--- the first position of a stretch at which the table doesn't answer, if it counts
-abbrev pub unanswered_in : Scope → Position → Option Position
-unanswered_in All low = Some low
-unanswered_in Answered low = None
-
--- These were given so far. At each position of theirs the table is right, if the section answers as the units' rows do.
-pub record HaveAsked {X D : Type 0} (stretch : D → Stretch X) (AreGiven : List D → Type 0) (index : Indexed) (scope : Scope)
-    (said : Selection → Position → Option X → Type 0) (section : Selection → Position → Option X)
-    (by_section by_table : Position → Option X) : Type 0 where
-  pub given : List D
-  pub so : AreGiven given
-  pub right : OfLive index (λ selection. ((p : Position) → by_section p ≡ section selection p)
-      → AreRightIn scope (said selection) by_section by_table (map stretch given))
+-- what is left of a stretch at which the table doesn't answer, if it counts
+abbrev pub unanswered_in : Scope → Position → Position → Option Piece
+unanswered_in All low high = Some (record { low = low; high = high })
+unanswered_in Answered low high = None

@@ -11,6 +11,7 @@ pub mod Said
 pub mod Stretches
 pub mod Verdicts
 pub mod Written
+pub mod WrongStretches
 -- what public clauses say of sources
 pub use Rattle.lnt_io.specs.FaultTexts as SourceTexts
 pub use Rattle.lnt_io.specs.Pulling

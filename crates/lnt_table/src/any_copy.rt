@@ -14,8 +14,8 @@ ghost use Rattle.lnt_table.specs.AskedTables.{IsAskedOf, IsReadByNumber, IsReadB
 ghost use Rattle.lnt_table.specs.Asked.{IsAsked, OfLive};
 ghost use Rattle.lnt_table.specs.Headline.{indexed_path, told_path};
 
-use crate::asked::{Asked, ask_by_number, ask_by_path};
-use crate::copies::Copies;
+use crate::asked::{Asked, ask};
+use crate::kept::{ByNumber, ByPath};
 use crate::kinds::OfKind;
 use crate::stretches::differences_by_path;
 use crate::verdict::{TableNo, Verdict, verdict_of};
@@ -168,9 +168,12 @@ fn ask_numbers(
 {
     match differ_records(alloc, text, index.spans())? {
         TableRead::Fault(fault) => Ok(TableRead::Fault(fault)),
-        TableRead::Table(mut differences) => {
-            let mut copies = Copies::of(index);
-            let asked = ask_by_number(alloc, &mut copies, &mut differences, version, scope)?;
+        TableRead::Table(differences) => {
+            let kept = ByNumber {
+                version,
+                differences,
+            };
+            let asked = ask(alloc, kept, index, scope)?;
             Ok(TableRead::Table(asked))
         }
     }
@@ -209,8 +212,11 @@ fn ask_held(
         (IsAnyAnswer (path_answer version (indexed_path index.now)) selection) (told_path version index.now selection)
         (path_span_answer (map held_span spans.now)) asked)) }
 {
-    let mut copies = Copies::of(index);
-    let mut differences = differences_by_path(index, spans, version);
-    let asked = ask_by_path(alloc, &mut copies, &mut differences, index, version, scope)?;
+    let kept = ByPath {
+        index,
+        version,
+        differences: differences_by_path(index, spans, version),
+    };
+    let asked = ask(alloc, kept, index, scope)?;
     Ok(asked)
 }

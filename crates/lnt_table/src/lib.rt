@@ -26,6 +26,7 @@ mod checking;
 mod copies;
 mod group;
 mod judged;
+mod kept;
 mod kinds;
 pub mod laws;
 mod path_lines;
@@ -35,6 +36,7 @@ mod stretches;
 mod verdict;
 mod within;
 mod write;
+mod wrong;
 
 // Checking.
 pub use any_copy::check_any_copy;
@@ -52,6 +54,11 @@ pub use within::{CheckedWithin, Coverage, Scope, check_within};
 pub use lnt_compare::{DifferencesByPath, Differing, HeldSpan, HeldTable, Remaining, TableRead};
 pub use lnt_spans::{Difference, Differences, SpanList};
 pub use stretches::{AnyDiffering, differences, differences_any, differences_by_path};
+
+// Every difference from the answers of all live sequences.
+pub use copies::Copies;
+pub use kept::{ByNumber, ByPath, EndedDifference, KeptStretches};
+pub use wrong::WrongStretches;
 
 // Writing.
 pub use lnt_compare::PathTable;

@@ -1,5 +1,5 @@
 //! Asks several sequences, from a position on, for one answer.
-ghost use Rattle.std.specs.Prelude.{◌≡◌, ◌<◌, ◌≤◌, List, Option, Some, IfOk, IfSome, IsSome};
+ghost use Rattle.std.specs.Prelude.{◌≡◌, ◌⊎◌, ◌<◌, ◌≤◌, List, Option, Some, IfOk, IfSome, IsSome};
 ghost use Rattle.lnt_spans.specs.declared.answer.Answer as spec_answer;
 ghost use Rattle.lnt_spans.specs.declared.position.Position as spec_position;
 ghost use Rattle.lnt_spans.specs.declared.span.Span as spec_span;
@@ -76,6 +76,40 @@ impl<S: SpanSource> SequenceSpans<S> {
         Ok(span.high)
     }
 
+    // The least position from `at` up to `end` at which one of the spans says this, or `end`. The spans below it are passed.
+    fn said_from<A: TableAnswer>(
+        &mut self,
+        answer: &A,
+        at: Position,
+        end: Position,
+    ) -> Result<Position, AllocError>
+        requires { IsAtMost at end }
+        ensures past { IfOk result (λ to. IsAtMost at to) }
+        ensures upto { IfOk result (λ to. IsAtMost to end) }
+        ensures unsaid { IfOk result (λ to. (answers : spec_position.Position → Option spec_answer.Answer)
+            → AnswersFrom S.to_come self.old at answers → (p : spec_position.Position) → IsAtMost at p → IsBelow p to
+            → Says (A.tell answer.now) (A.told answer.now) answers p → ⊥) }
+        ensures said { IfOk result (λ to. IsBelow to end → (answers : spec_position.Position → Option spec_answer.Answer)
+            → AnswersFrom S.to_come self.old at answers → Says (A.tell answer.now) (A.told answer.now) answers to) }
+    {
+        let mut from = at;
+        loop {
+            self.pass_to(from);
+            let Some(span) = self.next else {
+                return Ok(end);
+            };
+            let low = later(span.low, from);
+            if low >= end {
+                return Ok(end);
+            }
+            if answer.is_that(&span.answer)? {
+                return Ok(low);
+            }
+            self.pass();
+            from = span.high;
+        }
+    }
+
     // Passes the spans that end at or below a position.
     fn pass_to(&mut self, at: Position)
         ensures kept { (answers : spec_position.Position → Option spec_answer.Answer)
@@ -147,4 +181,34 @@ fn said_by_turns<S: SpanSource, A: TableAnswer>(
         to = sequence.said_to(answer, to)?;
     }
     Ok(to)
+}
+
+// The least position from `low` up to `high` at which one of the sequences says this, or `high`.
+pub(crate) fn first_said<S: SpanSource, A: TableAnswer>(
+    sequences: &mut [SequenceSpans<S>],
+    answer: &A,
+    low: Position,
+    high: Position,
+) -> Result<Position, AllocError>
+    requires { IsAtMost low high }
+    ensures past { IfOk result (λ to. IsAtMost low to) }
+    ensures upto { IfOk result (λ to. IsAtMost to high) }
+    ensures unsaid { IfOk result (λ to. (p : spec_position.Position) → IsAtMost low p → IsBelow p to
+        → NoneSays S.to_come (A.tell answer.now) (A.told answer.now) sequences.old low p) }
+    ensures said { IfOk result (λ to. IsBelow to high
+        → OneSays S.to_come (A.tell answer.now) (A.told answer.now) sequences.old low to) }
+{
+    let mut to = high;
+    for sequence in sequences.iter_mut() {
+        to = sequence.said_from(answer, low, to)?;
+    }
+    Ok(to)
+}
+
+// The later of two positions.
+fn later(one: Position, other: Position) -> Position
+    ensures past { IsAtMost one result × IsAtMost other result }
+    ensures either { (result ≡ one) ⊎ (result ≡ other) }
+{
+    if one < other { other } else { one }
 }

@@ -5,11 +5,11 @@ use Rattle.lnt_table.specs.Headline.{told_path}
 use Rattle.lnt_table.proofs.AnyCopyLemmas.{told_as}
 use Rattle.lnt_table.proofs.any_copy.ask_held.Goals as goal
 
-pub ask_by_path-requires-clause-started : goal.ask_by_path-requires-clause-started
-ask_by_path-requires-clause-started c = c.differences_by_path-differences.ensures.started c.requires
+pub ask-requires : goal.ask-requires
+ask-requires c = c.differences_by_path.ensures.started c.requires
 
 pub returns : goal.returns
 returns c selection is live =
-    (rw c.of-copies.ensures.index at c.in_ok-asked.ensures) selection is live (told_path c.args.version c.args.index.now selection)
+    c.in_ok-asked.ensures selection is live (told_path c.args.version c.args.index.now selection)
     (path_span_answer (map held_span c.args.spans.now)) (told_as c.args.version c.args.index.now selection is)
-    (c.differences_by_path-differences.ensures.by_units selection is c.requires)
+    (c.differences_by_path.ensures.by_units selection is c.requires)

@@ -21,4 +21,4 @@ returns-in_ok-asked-in-Table c selection is live =
     let told = rw c.in-Table.is at
     (c.in_ok-fault.ensures.differing all.spans (line_answer selection) all.to_come all.in_order all.answers) in
     numbers_read selection c.args.scope c.args.text.now c.args.version c.in_ok-asked-in-Table.asked _ c.requires told
-    (λ f g same found. (rw c.of-copies.ensures.index at c.in_ok-asked-in-Table.ensures) selection is live f g same found)
+    (λ f g same found. c.in_ok-asked-in-Table.ensures selection is live f g same found)

@@ -4,7 +4,7 @@ use Rattle.lnt_spans.specs.Positions.{IsAtMost}
 use Rattle.lnt_spans.proofs.DerivedOrder.{at_most_from_ge, at_most_from_not_lt, below_from_lt, below_from_not_ge}
 use Rattle.lnt_spans.proofs.PositionLaws.{at_most_itself, at_most_trans, below_at_most, below_is_at_most, not_both}
 use Rattle.lnt_table.proofs.CopiesLemmas.{so_on}
-use Rattle.lnt_table.proofs.copies.Copies.first_unsaid.Goals as goal
+use Rattle.lnt_table.proofs.copies.Copies.first_turn.Goals as goal
 
 pub loop-to-init : goal.loop-to-init
 loop-to-init g c = record {
@@ -29,7 +29,7 @@ loop-to-preserved g c =
       past = at_most_trans inv.past (below_is_at_most (c.end-end.ensures.after c.loop-to.at inv.below inv.ahead));
       below = below_from_not_ge c.if-ge.ensures;
       so = λ selection is live. so_on _ c.args.low c.loop-to.at c.end-end.result (inv.so selection is live)
-          (λ p le lt. (rw inv.index at c.in_ok-to.ensures.said) selection is live p le
+          (λ p le lt. (rw inv.index at c.in_ok-to.ensures.passed) selection is live p le
           (below_at_most lt (at_most_from_not_lt c.if-lt.ensures)));
     }
 
@@ -40,16 +40,16 @@ returns-then-lt-clause-found g c selection is live =
     record {
       past = at_most_trans inv.past c.in_ok-to.ensures.past;
       below = below_at_most early c.end-end.ensures.upto;
-      not_so = (rw inv.index at c.in_ok-to.ensures.unsaid) early selection is live;
+      not_so = (rw inv.index at c.in_ok-to.ensures.found) early selection is live;
       least = so_on _ c.args.low c.loop-to.at c.in_ok-to.to (inv.so selection is live)
-          ((rw inv.index at c.in_ok-to.ensures.said) selection is live);
+          ((rw inv.index at c.in_ok-to.ensures.passed) selection is live);
     }
 
 pub returns-then-ge-clause-found : goal.returns-then-ge-clause-found
 returns-then-ge-clause-found g c selection is live =
     let inv = c.loop-to.invariant in
     so_on _ c.args.low c.loop-to.at c.args.high (inv.so selection is live)
-    (λ p le lt. (rw inv.index at c.in_ok-to.ensures.said) selection is live p le
+    (λ p le lt. (rw inv.index at c.in_ok-to.ensures.passed) selection is live p le
     (below_at_most lt (at_most_trans (at_most_from_ge c.if-ge.ensures) (at_most_from_not_lt c.if-lt.ensures))))
 
 pub loop-to-smaller : goal.loop-to-smaller
@@ -61,3 +61,13 @@ loop-to-smaller g c =
     let rises = (on.reached (subst (λ (q : Position). IsAtMost q c.end-end.result) (sym inv.at) later)).1 next.0
     (λ d. subst (λ (q : Position). IsAtMost q c.end-end.result) (sym (next.1 d)) (at_most_itself c.end-end.result)) in
     omega (arith, rises, next.0, ap (λ e. length e.now) on.extents)
+
+pub returns-then-lt-clause-range : goal.returns-then-lt-clause-range
+returns-then-lt-clause-range g c = (
+  at_most_trans c.loop-to.invariant.past c.in_ok-to.ensures.past,
+  below_at_most (below_from_lt c.if-lt.ensures) c.end-end.ensures.upto,
+)
+
+pub passed_to-requires-clause-some : goal.passed_to-requires-clause-some
+passed_to-requires-clause-some g c =
+    c.end-end.ensures.after c.loop-to.at c.loop-to.invariant.below c.loop-to.invariant.ahead

@@ -1,9 +1,9 @@
 use Rattle.std.proofs.Common.{◌≡◌, ◌-◌, length, Some}
 use Rattle.lnt_spans.specs.Positions.{IsAtMost, IsBelow}
 use Rattle.lnt_sequences.specs.Copies.{IsAnyAnswer}
-use Rattle.lnt_table.specs.Asked.{AreCopies, IsSoFrom, OfLive}
+use Rattle.lnt_table.specs.Asked.{AreCopies, IsPassed, IsSoFrom, OfLive}
 use Rattle.lnt_table.specs.Groups.{NextIsAfter}
-use Rattle.lnt_table.proofs.copies.Copies.first_unsaid.Given as goal
+use Rattle.lnt_table.proofs.copies.Copies.first_turn.Given as goal
 
 abbrev pub invariant-loop-to : goal.invariant-loop-to
 invariant-loop-to g l = record {
@@ -14,7 +14,7 @@ invariant-loop-to g l = record {
   past : IsAtMost l.fn.low l.at;
   below : IsBelow l.at l.fn.high;
   so : OfLive l.fn.self.index.now (λ selection. IsSoFrom
-      (λ p. IsAnyAnswer (g.A.TableAnswer.tell l.answer) selection p (Some (g.A.TableAnswer.told l.answer))) l.fn.low l.at);
+      (λ p. IsPassed l.is_said (IsAnyAnswer (g.A.TableAnswer.tell l.answer) selection p (Some (g.A.TableAnswer.told l.answer)))) l.fn.low l.at);
 }
 
 abbrev pub decreases-loop-to : goal.decreases-loop-to
