@@ -1,17 +1,15 @@
 -- Stretches of positions at which a table isn't right, found in those at which it and the kept sequences differ.
-use Rattle.std.proofs.Common.{◌≡◌, ◌≢◌, ◌∙◌, ℕ, ◌^◌, ◌<◌, ◌≤◌, arith, Bool, List, [], ◌∷◌, ◌++◌, ◌⊎◌, inl, is_some, IfSome, MatchOption}
+use Rattle.std.proofs.Common.{◌≡◌, ◌≢◌, ◌∙◌, ◌^◌, ◌<◌, ◌≤◌, arith, Bool, List, [], ◌∷◌, ◌++◌, ◌⊎◌, inl, is_some, IfSome, MatchOption}
 use Rattle.std.proofs.Common.{inr, Option, Some, None, sym, subst, ap, refl, map, option_map, true, false}
 use Rattle.std.specs.List.{AllByRecursion}
 use Rattle.std.proofs.lemmas.Bool.{cases_lt}
 use Rattle.std.proofs.lemmas.List.{map-append}
-use Rattle.std.proofs.lemmas.Option.{same_Some}
 use Rattle.lnt_spans.specs.declared.answer.Answer.{Answer}
 use Rattle.lnt_spans.specs.declared.position.Position.{Position}
 use Rattle.lnt_spans.specs.AnyStretches.{AreAllStretches, AreAnswers, AreFirstStretches, AreRising, AreToldBelow, BeginsStretch, EndsAt}
 use Rattle.lnt_spans.specs.AnyStretches.{IsInOne, IsInStretch, Stretch, stretch_at}
-use Rattle.lnt_spans.specs.Partial.{AreCounts}
 use Rattle.lnt_spans.specs.Positions.{IsAtMost, IsBelow}
-use Rattle.lnt_spans.proofs.PositionLaws.{at_most_below, at_most_itself, at_most_trans, below_at_most, below_is_at_most, not_both, order_cases}
+use Rattle.lnt_spans.proofs.PositionLaws.{at_most_itself, at_most_trans, below_at_most, below_is_at_most, not_both, order_cases}
 use Rattle.lnt_spans.proofs.PositionLaws.{order_three, same_position}
 use Rattle.lnt_sequences.specs.Copies.{IsAnyAnswer}
 use Rattle.lnt_sequences.specs.Sequences.{line_answer, Selection}

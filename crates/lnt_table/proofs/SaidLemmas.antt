@@ -1,6 +1,6 @@
 -- Several sequences that are asked, from a position on, for one answer.
-use Rattle.std.proofs.Common.{◌≡◌, ◌∙◌, ◌<◌, ◌≤◌, ℕ, ◌+◌, List, [], ◌∷◌, Option}
-use Rattle.std.proofs.Common.{Some, None, IfSome, ap, sym, refl, subst, arith, length, get_or}
+use Rattle.std.proofs.Common.{◌≡◌, ◌∙◌, ◌<◌, ℕ, List, [], ◌∷◌, Option}
+use Rattle.std.proofs.Common.{Some, None, ap, sym, refl, subst, arith, length, get_or}
 use Rattle.std.proofs.Common.{option_map, ◌⊎◌, inl, inr, get_or-set_same, get_or-set_other, length-set, set}
 use Rattle.std.proofs.lemmas.Bool.{cases_eq}
 use Rattle.std.proofs.lemmas.List.{get_or_default}

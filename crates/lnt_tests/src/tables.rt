@@ -9,3 +9,4 @@ mod symbols;
 mod table;
 mod within;
 mod worked;
+mod wrong;

@@ -1,4 +1,4 @@
-use Rattle.std.proofs.Common.{◌<◌, ◌≡◌, ◌⊎◌, ◌∙◌, ℕ, inl, inr, arith, length, refl, sym, subst, get_or, Option}
+use Rattle.std.proofs.Common.{◌<◌, ◌≡◌, ◌∙◌, ℕ, inl, inr, arith, length, refl, sym, subst, get_or, Option}
 use Rattle.std.proofs.Common.{get_or-set_other, length-set}
 use Rattle.std.proofs.lemmas.Bool.{cases_eq, cases_lt}
 use Rattle.lnt_spans.specs.declared.answer.Answer.{Answer}
@@ -24,8 +24,8 @@ said_from-requires g c = c.loop-sequence.invariant.past
 
 pub returns-clause-unsaid : goal.returns-clause-unsaid
 returns-clause-unsaid g c p le below k d answers lt h says =
-    c.loop-sequence.invariant.unsaid k d answers (omega (arith, lt, c.loop-sequence-test.false, c.loop-sequence.invariant.count)) h p le below
-    says
+    c.loop-sequence.invariant.unsaid k d answers (omega (arith, lt, c.loop-sequence-test.false, c.loop-sequence.invariant.count)) h p le
+    below says
 
 pub loop-sequence-preserved : goal.loop-sequence-preserved
 loop-sequence-preserved g c =
@@ -52,8 +52,8 @@ loop-sequence-preserved g c =
         | inl early ↦ inv.unsaid k d answers early h p le (below_at_most below one.upto) says
         | inr here ↦
             let same : k ≡ i = omega (arith, lt, here) in
-            one.unsaid answers (item d answers (subst (λ (n : ℕ). AnswersFrom g.S.SpanSource.to_come (get_or c.args.sequences.now n d) c.args.low answers)
-            same h)) p le below says
+            one.unsaid answers (item d answers (subst (λ (n : ℕ).
+            AnswersFrom g.S.SpanSource.to_come (get_or c.args.sequences.now n d) c.args.low answers) same h)) p le below says
       ];
       said = λ below. elim (order_cases c.in_ok-to.to c.loop-sequence.to) [
         | inl early ↦ (i, omega (arith, inside, inv.count), λ d answers h. one.said early answers (item d answers h))

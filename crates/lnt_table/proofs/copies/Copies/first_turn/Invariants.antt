@@ -14,7 +14,8 @@ invariant-loop-to g l = record {
   past : IsAtMost l.fn.low l.at;
   below : IsBelow l.at l.fn.high;
   so : OfLive l.fn.self.index.now (λ selection. IsSoFrom
-      (λ p. IsPassed l.is_said (IsAnyAnswer (g.A.TableAnswer.tell l.answer) selection p (Some (g.A.TableAnswer.told l.answer)))) l.fn.low l.at);
+      (λ p. IsPassed l.is_said (IsAnyAnswer (g.A.TableAnswer.tell l.answer) selection p (Some (g.A.TableAnswer.told l.answer))))
+      l.fn.low l.at);
 }
 
 abbrev pub decreases-loop-to : goal.decreases-loop-to

@@ -1,4 +1,3 @@
-use Rattle.std.proofs.Common.{refl}
 use Rattle.lnt_compare.specs.PathStretches.{stretch_of, stretches_of}
 use Rattle.lnt_table.proofs.AskedLemmas.{first_told}
 use Rattle.lnt_table.proofs.JudgedLemmas.{counts_of}

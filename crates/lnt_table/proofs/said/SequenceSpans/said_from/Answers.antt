@@ -1,4 +1,4 @@
-use Rattle.std.proofs.Common.{◌⊎◌, arith, inl, inr}
+use Rattle.std.proofs.Common.{inl, inr}
 use Rattle.lnt_spans.proofs.DerivedOrder.{at_most_from_ge, below_from_not_ge}
 use Rattle.lnt_spans.proofs.PositionLaws.{at_most_itself, at_most_trans, below_at_most, below_is_at_most, not_both, order_cases}
 use Rattle.lnt_table.proofs.SaidLemmas.{none_more, none_says, said_first, unsaid_before, unsaid_with}

@@ -1,0 +1,52 @@
+//! Stretches at which no copy answers as a table does.
+use crate::samples::{COPY, PLAIN, whole};
+use crate::tables::lines::{OPTIONS, STRINGS};
+use lnt_compare::{TableRead, hold_table};
+use lnt_io::Counted;
+use lnt_lines::{Index, JudgedIndex, Options, index_with_copies};
+use lnt_table::{ByPath, Scope, WrongStretches, differences_by_path};
+use std::alloc::Global;
+
+// From 0x1000 up to 0x1004 the second copy answers so.
+const AROUND: &[u8] = b"low,high,path,line
+0x0ff0,0x1006,/s/a.c,5
+";
+
+// The first of them of the index and a table by path, in the scope: where it begins and ends.
+fn first_wrong(alloc: Global, index: &Index<'_>, table: &[u8], scope: Scope) -> Option<(u64, u64)> {
+    let Ok(TableRead::Table((version, spans))) = hold_table(alloc, table) else {
+        return None;
+    };
+    let kept = ByPath {
+        index,
+        version,
+        differences: differences_by_path(index, &spans, version),
+    };
+    let mut wrong = WrongStretches::of(kept, index, scope);
+    match wrong.next_wrong(alloc) {
+        Ok(Some(ended)) => Some((ended.low.address, ended.end.address)),
+        _ => None,
+    }
+}
+
+// The same of two copies.
+fn of_copies(alloc: Global, table: &[u8], scope: Scope) -> Option<(u64, u64)> {
+    let mut both = Vec::from_slice(alloc, &PLAIN).ok()?;
+    both.extend_from_slice(&COPY).ok()?;
+    let mut section = Counted::new(whole(&both), 1000);
+    let options = Options {
+        skip_copies: true,
+        ..OPTIONS
+    };
+    match index_with_copies(alloc, &mut section, &STRINGS, &options) {
+        Ok(JudgedIndex::Good(index)) => first_wrong(alloc, &index, table, scope),
+        _ => None,
+    }
+}
+
+#[test]
+fn stretches_of_copies(rt: HostRuntime) {
+    let alloc = rt.alloc();
+    assert!(rt; of_copies(alloc, AROUND, Scope::All) == Some((0x0ff0, 0x1000)));
+    assert!(rt; of_copies(alloc, AROUND, Scope::Answered) == Some((0x0ff0, 0x1000)));
+}
