@@ -76,6 +76,7 @@ class Files(unittest.TestCase):
         for number in signal.SIGTERM, signal.SIGHUP:
             child = os.fork()
             if child == 0:
+                signal.signal(number, signal.SIG_DFL)  # nohup leaves SIGHUP ignored
                 with removed_where_ended(self.path), open(self.path, "w"):
                     os.kill(os.getpid(), number)
                     time.sleep(9)
