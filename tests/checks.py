@@ -426,8 +426,8 @@ def picked_table(picked, section, version, others):
 
 
 def picked_options(picked, is_partial, any_copy):
-    """How a table is compared, and the words for it, but for that any copy counts: then not all places are told."""
-    asked = Asked(all=picked.randrange(2) > 0 and not any_copy, any_copy=any_copy)
+    """How a table is compared, and the words for it, but for that any copy counts."""
+    asked = Asked(all=picked.randrange(2) > 0, any_copy=any_copy)
     words = ["--all"] * asked.all
     if not is_partial:
         return asked, words

@@ -48,8 +48,25 @@ says 'a faulty table' 1 $'no 37 table fields record 1\n' faulty --any-copy
 (cat "$work/section"; unit 0010000000000000 144b 0203) >"$work/inside" # it begins where the others do, and ends behind them
 expect 'what is no copy' 1 $'no 32 overlap 0x0:0 0xd5:0 at 0x1000,0\n' '' "$program" check "$work/inside" "$work/mixed" --any-copy
 
-"$program" check "$work/section" "$work/mixed" --any-copy --all >"$work/refused.out" 2>"$work/refused.err"
-expect 'of all places' 0 '' '' bash -c '[ "$0" = 2 ] && [ ! -s "$1" ] && grep -q -e "--all" "$2"' $? "$work/refused.out" "$work/refused.err"
+
+# ---- all places
+
+says 'all places of a right table' 0 $'yes\n' mixed --any-copy --all
+says 'where it answers' 0 $'yes\nanswers 12 of 12\n' mixed --any-copy --all --partial
+table spread $'0x1000,0x1006,/s/a.c,5\n0x2000,0x2004,/s/a.c,8\n0x2004,0x2006,/s/a.c,10\n'
+says 'each place at which no copy answers so' 1 $'no 40 differs at 0x1004,0 up to 0x1006,0 table "/s/a.c",5 section "/s/a.c",4
+no 40 differs at 0x2000,0 up to 0x2004,0 table "/s/a.c",8 section "/s/a.c",9\n' spread --any-copy --all --ends
+table around $'0x0ff0,0x1006,/s/a.c,7\n'
+says 'both ends of an answer of which a copy has the middle' 1 $'no 40 differs at 0xff0,0 table "/s/a.c",7 section none
+no 40 differs at 0x1000,0 table "/s/a.c",7 section "/s/a.c",3\n' around --any-copy --all --partial
+says 'what is missing too' 1 $'no 40 differs at 0x1004,0 table none section "/s/a.c",4
+no 40 differs at 0x2000,0 table none section "/s/a.c",9
+no 40 differs at 0x2004,0 table none section "/s/a.c",10\n' gap --any-copy --all
+says 'a share of what is right' 1 $'no 46 answers 4 of 12\n' gap --any-copy --all --partial --at-least 34
+says 'all places by number' 1 $'no 40 differs at 0x1000,0 up to 0x1004,0 table 0,1,5,0,1 section 0,1,3,0,1\n' crossed --any-copy --all --ends --partial
+says 'all places of a faulty table' 1 $'no 37 table fields record 1\n' faulty --any-copy --all
+expect 'all places, and what is no copy' 1 $'no 32 overlap 0x0:0 0xd5:0 at 0x1000,0\n' '' \
+  "$program" check "$work/inside" "$work/mixed" --any-copy --all
 
 # ---- the note
 

@@ -6,6 +6,7 @@ pub mod AnswerLineLemmas
 pub mod CommaLemmas
 pub mod DigestLemmas
 pub mod FileLemmas
+pub mod GivenLemmas
 pub mod PathStretchLemmas
 pub mod PathTableLemmas
 pub mod RoomLaws

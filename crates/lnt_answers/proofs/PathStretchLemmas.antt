@@ -1,37 +1,26 @@
 -- The stretches at which a table by path answers otherwise than the rows of units, given one after another.
-use Rattle.std.proofs.Common.{◌≡◌, ◌∙◌, Bool, ℕ, List, [], map, Option, Some, None, IfSome, is_some, refl, subst, option_map}
+use Rattle.std.proofs.Common.{◌≡◌, ℕ, List, [], map, Option, Some, None, IfSome, subst}
 use Rattle.lnt_spans.specs.declared.position.Position.{Position}
 use Rattle.lnt_spans.specs.declared.span.Span.{Span}
+use Rattle.lnt_sequences.specs.Copies.{IsAnyAnswer}
 use Rattle.lnt_sequences.specs.Sequences.{Selection}
 use Rattle.lnt_lines.specs.Indexed.{Indexed}
 use Rattle.lnt_records.specs.Faults.{IsUnnumbered}
-use Rattle.lnt_compare.specs.declared.by_path.answer.AnswerByPath.{AnswerByPath}
-use Rattle.lnt_compare.specs.declared.by_path.answer.DifferenceByPath.{DifferenceByPath}
 use Rattle.lnt_compare.specs.declared.by_path.held.HeldSpan.{HeldSpan}
 use Rattle.lnt_compare.specs.declared.by_path.stretches.DifferencesByPath.{DifferencesByPath}
 use Rattle.lnt_records.specs.declared.by_path.version.PathVersion.{PathVersion}
 use Rattle.lnt_compare.specs.Held.{held_span}
-use Rattle.lnt_records.specs.PathSpans.{PathAnswer, StandInOrder, path_span_answer}
-use Rattle.lnt_compare.specs.PathStretches.{stretch_of, told_path_answer}
+use Rattle.lnt_records.specs.PathSpans.{PathAnswer, StandInOrder, path_answer, path_span_answer}
 use Rattle.lnt_records.specs.PathTables.{IsPathTableOf}
 use Rattle.lnt_compare.specs.Differing.{HasFoundStretchesByPath}
 use Rattle.lnt_table.specs.Headline.{indexed_path, told_path}
-use Rattle.lnt_answers.specs.Stretches.{IsSoByPath}
-
--- whether the table answers there, as its answer is held
-pub answered_so : (difference : DifferenceByPath) (is_answered : Bool) → is_answered ≡ is_some difference.by_table
-    → is_answered ≡ is_some (stretch_of difference).by_table
-answered_so difference is_answered same = same ∙ by_answer difference.by_table
-  where
-    by_answer : (answer : Option AnswerByPath) → is_some answer ≡ is_some (option_map told_path_answer answer)
-    by_answer None = refl
-    by_answer (Some told) = refl
+use Rattle.lnt_answers.specs.Stretches.{IsSoByPath, OfAnswers}
 
 -- It holds of whatever two answers the differences are.
 abbrev pub ForPathDifferences : {S : Type 0} → (S → List Span → Type 0) → (ℕ → ℕ → List ℕ) → DifferencesByPath S
-    → ((Position → Option PathAnswer) → (Position → Option PathAnswer) → Type 0) → Type 0
-ForPathDifferences to_come path differences IsSo =
-    (f g : Position → Option PathAnswer) → HasFoundStretchesByPath to_come path differences f g [] → IsSo f g
+    → (Position → Option PathAnswer → Type 0) → OfAnswers PathAnswer → Type 0
+ForPathDifferences to_come path differences said IsSo = (f g : Position → Option PathAnswer)
+    → HasFoundStretchesByPath to_come path differences f g [] → IsSo said f g
 
 -- No stretch was given yet, of a table with these spans.
 abbrev pub HasStarted : {S : Type 0} → (S → List Span → Type 0) → Indexed → DifferencesByPath S → PathVersion → Selection
@@ -43,17 +32,18 @@ HasStarted to_come index differences version selection spans = StandInOrder (map
 -- The slice has the held spans, and the paths are those of the index. So it holds of the differences from the units' rows.
 pub for_path_units : {S : Type 0} (to_come : S → List Span → Type 0) (index : Indexed) (path : ℕ → ℕ → List ℕ)
     (differences : DifferencesByPath S) (version : PathVersion) (spans slice : List HeldSpan) (selection : Selection)
-    (table : Option (List ℕ)) (IsSo : (Position → Option PathAnswer) → (Position → Option PathAnswer) → Type 0) → slice ≡ spans
+    (table : Option (List ℕ)) (IsSo : OfAnswers PathAnswer) → slice ≡ spans
     → path ≡ indexed_path index → IfSome table (λ text. IsUnnumbered text × IsPathTableOf version text (map held_span spans))
     → StandInOrder (map held_span spans) → HasStarted to_come index differences version selection slice
-    → ForPathDifferences to_come path differences IsSo
+    → ForPathDifferences to_come path differences (IsAnyAnswer (path_answer version (indexed_path index)) selection) IsSo
     → IfSome table (λ text. IsSoByPath index selection text IsSo)
 for_path_units to_come index path differences version spans slice selection None IsSo same by is order started p = tt
 for_path_units to_come index path differences version spans slice selection (Some text) IsSo same by is order started p = record {
   version = version;
   table = map held_span spans;
   is_table = is.1;
-  so = subst (λ (q : ℕ → ℕ → List ℕ). ForPathDifferences to_come q differences IsSo) by
-      p (told_path version index selection) (path_span_answer (map held_span spans))
+  so = subst (λ (q : ℕ → ℕ → List ℕ). ForPathDifferences to_come q differences
+      (IsAnyAnswer (path_answer version (indexed_path index)) selection) IsSo) by p (told_path version index selection)
+      (path_span_answer (map held_span spans))
       (subst (HasStarted to_come index differences version selection) same started order);
 }

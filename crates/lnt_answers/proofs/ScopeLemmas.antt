@@ -1,32 +1,33 @@
--- The lines of the stretches in a scope, given one after another among all stretches.
-use Rattle.std.proofs.Common.{◌≡◌, ◌∙◌, Bool, true, false, cond, ℕ, List, [], ◌∷◌, ◌++◌, append-nil, Option, None, Some, IfSome, ap, arith}
+-- The lines of the stretches in a scope, among all stretches that are given.
+use Rattle.std.proofs.Common.{◌≡◌, ◌∙◌, Bool, true, false, cond, ℕ, List, [], ◌∷◌, ◌++◌, append-nil, Option, None, Some, ap, arith}
 use Rattle.std.proofs.Common.{is_some, map, refl, subst, sym, flat_map}
 use Rattle.std.specs.List.{AllByRecursion}
 use Rattle.std.specs.Io.KnownBytes.{Appends}
-use Rattle.std.proofs.KnownBytes.{Appends-nil, Appends-trans}
+use Rattle.std.proofs.KnownBytes.{Appends-trans}
 use Rattle.std.proofs.lemmas.List.{map-append}
+use Rattle.std.proofs.lemmas.List.Folds.{flat_map-map}
 use Rattle.std.proofs.lemmas.List.Concat.{flat_map-append}
 use Rattle.std.proofs.lemmas.Grind.{common_steps}
 use Rattle.lnt_io.specs.Prefixes.{AppendsPrefix, HasBegun}
-use Rattle.lnt_io.proofs.PrefixLaws.{appends_known, prefix_after, prefix_all, prefix_before, prefix_same}
+use Rattle.lnt_io.proofs.PrefixLaws.{appends_known, prefix_after, prefix_before, prefix_same}
 use Rattle.lnt_io.specs.declared.status.Status.{Status}
 use Rattle.lnt_spans.specs.declared.position.Position.{Position}
-use Rattle.lnt_spans.specs.AnyStretches.{AreAllStretches, Stretch}
-use Rattle.lnt_spans.specs.Partial.{AreAllMistakes, addresses_answered, where_missed}
+use Rattle.lnt_spans.specs.AnyStretches.{AreAllStretches, EndsAt, Stretch}
+use Rattle.lnt_spans.specs.Partial.{AreAllMistakes, AreCounts}
 use Rattle.lnt_spans.specs.Laws.{answered_stretches, if_some}
 use Rattle.lnt_spans.proofs.AmongLemmas.{mistakes_among}
-use Rattle.lnt_spans.proofs.PartialLemmas.{answered_and_missed}
 use Rattle.lnt_spans.proofs.StretchLaws.{AllAfter, HasEnd}
-use Rattle.lnt_table.specs.AnyVersion.{coverage_but}
+use Rattle.lnt_table.specs.AnyCopy.{AreAllWrong, AreFirstWrong, EndsWrong}
 use Rattle.lnt_table.specs.declared.within.Coverage.{Coverage}
 use Rattle.lnt_table.specs.declared.within.Scope.{Scope}
 use Rattle.lnt_table.specs.declared.within.Scope.TheVariants.{All, Answered}
 use Rattle.lnt_answers.specs.declared.report.Report.{Report}
-use Rattle.lnt_answers.specs.Stretches.{AreAllIn, AreStretchesPrinted, IsEndTold, ToldStretch, answer_if_none, lines_or}
-use Rattle.lnt_answers.specs.Stretches.{stretches_status, told_with}
-use Rattle.lnt_answers.specs.Stepping.{ArePrinted, answer_of, counts_in, coverage_of, end_status, end_text, if_none}
+use Rattle.lnt_answers.specs.Stretches.{AreAllIn, AreFirstPrinted, AreStretchesPrinted, EndsIn, HaveEnds, IsEndTold, ToldStretch}
+use Rattle.lnt_answers.specs.Stretches.{answer_if_none, lines_or, stretches_status, told_with}
+use Rattle.lnt_answers.specs.Stepping.{AreBegun, AreEndsTold, ArePrinted, ToldDifference, answer_of, coverage_of, differences_of}
+use Rattle.lnt_answers.specs.Stepping.{end_status, end_text, if_none, told_in}
 use Rattle.lnt_answers.specs.Verdicts.{checked_line, checked_status}
-use Rattle.lnt_answers.proofs.RoomLaws.{text_in_room}
+use Rattle.lnt_answers.proofs.GivenLemmas.{each_append}
 
 -- ---- of all stretches those in a scope
 
@@ -37,17 +38,9 @@ abbrev answered_told : {X : Type 0} → List (ToldStretch X) → List (ToldStret
 answered_told [] = []
 answered_told (told ∷ list) = if_some told.stretch.by_table told (answered_told list)
 
-abbrev pub told_in : {X : Type 0} → Scope → List (ToldStretch X) → List (ToldStretch X)
-told_in All list = list
-told_in Answered list = answered_told list
-
-abbrev has_none : {X : Type 0} → List X → Bool
-has_none [] = true
-has_none (first ∷ list) = false
-
-in_none : {X : Type 0} (scope : Scope) → told_in {X = X} scope [] ≡ []
-in_none All = refl
-in_none Answered = refl
+abbrev pub in_scope : {X : Type 0} → Scope → List (ToldStretch X) → List (ToldStretch X)
+in_scope All list = list
+in_scope Answered list = answered_told list
 
 with_some : {X Y : Type 0} (answer : Option X) (one : Y) (list more : List Y)
     → if_some answer one (list ++ more) ≡ if_some answer one list ++ more
@@ -55,22 +48,12 @@ with_some None one list more = refl
 with_some (Some told) one list more = refl
 
 in_append : {X : Type 0} (scope : Scope) (list more : List (ToldStretch X))
-    → told_in scope (list ++ more) ≡ told_in scope list ++ told_in scope more
+    → in_scope scope (list ++ more) ≡ in_scope scope list ++ in_scope scope more
 in_append All list more = refl
 in_append Answered [] more = refl
 in_append Answered (told ∷ list) more =
     ap (λ rest. if_some told.stretch.by_table told rest) (in_append Answered list more)
     ∙ with_some told.stretch.by_table told (answered_told list) (answered_told more)
-
--- one stretch
-in_one : {X : Type 0} (scope : Scope) (told : ToldStretch X)
-    → told_in scope (told ∷ []) ≡ cond (counts_in scope (is_some told.stretch.by_table)) (told ∷ []) []
-in_one {X} All told = refl
-in_one {X} Answered told = by_answer told.stretch.by_table
-  where
-    by_answer : (answer : Option X) → if_some answer told [] ≡ cond (is_some answer) (told ∷ []) []
-    by_answer None = refl
-    by_answer (Some said) = refl
 
 map_some : {X Y Z : Type 0} (f : Y → Z) (answer : Option X) (one : Y) (list : List Y)
     → map f (if_some answer one list) ≡ if_some answer (f one) (map f list)
@@ -83,170 +66,46 @@ map_answered (told ∷ list) =
     map_some (λ told. told.stretch) told.stretch.by_table told (answered_told list)
     ∙ ap (λ rest. if_some told.stretch.by_table told.stretch rest) (map_answered list)
 
-all_in : {X : Type 0} (scope : Scope) (f g : Position → Option X) (list : List (ToldStretch X)) → AreAllStretches f g (stretches_in list)
-    → AreAllIn scope f g (stretches_in (told_in scope list))
-all_in All f g list all = all
-all_in Answered f g list all = subst (AreAllMistakes g f) (sym (map_answered list)) (mistakes_among g f (stretches_in list) all)
-
 each_some : {X Y : Type 0} (P : Y → Type 0) (answer : Option X) (one : Y) (list : List Y) → P one → AllByRecursion P list
     → AllByRecursion P (if_some answer one list)
 each_some P None one list h each = each
 each_some P (Some said) one list h each = (h, each)
 
 each_in : {X : Type 0} (P : ToldStretch X → Type 0) (scope : Scope) (list : List (ToldStretch X)) → AllByRecursion P list
-    → AllByRecursion P (told_in scope list)
+    → AllByRecursion P (in_scope scope list)
 each_in P All list each = each
 each_in P Answered [] each = tt
 each_in P Answered (told ∷ list) each =
     each_some P told.stretch.by_table told (answered_told list) each.0 (each_in P Answered list each.1)
 
-each_append : {X : Type 0} (P : X → Type 0) (list more : List X) → AllByRecursion P list → AllByRecursion P more
-    → AllByRecursion P (list ++ more)
-each_append P [] more h k = k
-each_append P (x ∷ list) more h k = (h.0, each_append P list more h.1 k)
+module _ {X : Type 0} (report : Report) (said : Position → Option X → Type 0) (f g : Position → Option X) where
+  abbrev IsTold : Scope → ToldStretch X → Type 0
+  IsTold scope told = IsEndTold report.ends (EndsIn report.any_copy scope said f g told.stretch) told.end
 
--- the line of one stretch
-one_line : {X : Type 0} (line : X → List ℕ) (stretch : X) (counts : Bool)
-    → cond counts (line stretch) [] ≡ flat_map line (cond counts (stretch ∷ []) [])
-one_line line stretch true = sym (append-nil (line stretch))
-one_line line stretch false = refl
+  -- those at which the two differ
+  kept_in : (scope : Scope) (list : List (ToldStretch X)) → AreAllStretches f g (stretches_in list)
+      → AreAllIn false scope said f g (stretches_in (in_scope scope list))
+  kept_in All list all = all
+  kept_in Answered list all = subst (AreAllMistakes g f) (sym (map_answered list)) (mistakes_among g f (stretches_in list) all)
 
-none_more : {X : Type 0} (list : List X) (stretch : X) (counts : Bool)
-    → cond counts false (has_none list) ≡ has_none (list ++ cond counts (stretch ∷ []) [])
-none_more [] stretch true = refl
-none_more (first ∷ list) stretch true = refl
-none_more list stretch false = ap has_none (sym (append-nil list))
+  -- ---- a writer that was stopped
 
--- ---- a line that is made in an empty buffer, if its stretch is in the scope
---     text    what the line shows, where that is known
+  prefix_of_all : (line : ToldStretch X → List ℕ) (none : List ℕ) (told more : List (ToldStretch X)) (old new : Option (List ℕ))
+      → AppendsPrefix old new (flat_map line told) → AppendsPrefix old new (lines_or line none (told ++ more))
+  prefix_of_all line none [] more old new prefix = prefix_before old new [] (lines_or line none more) prefix
+  prefix_of_all line none (first ∷ told) more old new prefix = grind (arith, common_steps, prefix_same, flat_map-append, prefix_before)
 
-pub hidden_so : (text : Option (List ℕ)) (IsSo : List ℕ → Type 0) (counts : Bool) → counts ≡ false → IsSo []
-    → IfSome text (λ shown. IsSo (cond counts shown []))
-hidden_so None IsSo counts outside so = tt
-hidden_so (Some shown) IsSo counts outside so = subst (λ (b : Bool). IsSo (cond b shown [])) (sym outside) so
-
-pub shown_so : (text : Option (List ℕ)) (IsSo : List ℕ → Type 0) (counts : Bool) (room made line : List ℕ) → counts ≡ true → room ≡ []
-    → IfSome text (λ shown. made ≡ room ++ shown) → line ≡ made → IsSo line → IfSome text (λ shown. IsSo (cond counts shown []))
-shown_so None IsSo counts room made line inside none all same so = tt
-shown_so (Some shown) IsSo counts room made line inside none all same so = grind (arith, common_steps, text_in_room)
-
-pub all_so : (text : Option (List ℕ)) (IsSo : List ℕ → Type 0) (counts : Bool) → ((bytes : List ℕ) → IsSo bytes)
-    → IfSome text (λ shown. IsSo (cond counts shown []))
-all_so None IsSo counts so = tt
-all_so (Some shown) IsSo counts so = so (cond counts shown [])
-
--- ---- stretches that were given one after another
-
--- These were given, with ends, and the lines of those in the scope were written.
---     of         a difference as a stretch
---     AreGiven   which differences were given
---     IsEnd      which end a stretch is told with
-pub record HasPrinted {D X : Type 0} (of : D → Stretch X) (line : ToldStretch X → List ℕ) (AreGiven : List D → Type 0)
-    (IsEnd : ToldStretch X → Type 0) (scope : Scope) (old new : Option (List ℕ)) (is_right : Bool) : Type 0 where
-  pub given : List D
-  pub so : AreGiven given
-  pub told : List (ToldStretch X)
-  pub same : stretches_in told ≡ map of given
-  pub ends : AllByRecursion IsEnd told
-  pub text : Appends old new (flat_map line (told_in scope told))
-  pub right : is_right ≡ has_none (told_in scope told)
-
-module _ {D X : Type 0} {of : D → Stretch X} {line : ToldStretch X → List ℕ} {IsEnd : ToldStretch X → Type 0} {scope : Scope}
-    {old : Option (List ℕ)} {is_right : Bool} where
-  pub printed_none : {AreGiven : List D → Type 0} → AreGiven [] → is_right ≡ true
-      → HasPrinted of line AreGiven IsEnd scope old old is_right
-  printed_none so right = record {
-    given = [];
-    so = so;
-    told = [];
-    same = refl;
-    ends = tt;
-    text = subst (λ (list : List (ToldStretch X)). Appends old old (flat_map line list)) (sym (in_none scope)) (Appends-nil old);
-    right = right ∙ ap has_none (sym (in_none {X = X} scope));
+  -- a prefix of the lines of these stretches
+  begun_of : {line : ToldStretch X → List ℕ} {old new : Option (List ℕ)} (stretches : List (ToldStretch X))
+      → AreAllIn report.any_copy report.scope said f g (stretches_in stretches) → HaveEnds report said f g stretches
+      → AppendsPrefix old new (lines_or line (checked_line report.at_least (answer_if_none report.scope f g)) stretches)
+      → HasBegun (AreStretchesPrinted line report said f g old) old new
+  begun_of {line = line} {old = old} stretches all ends prefix = record {
+    whole = lines_or line (checked_line report.at_least (answer_if_none report.scope f g)) stretches;
+    ending = stretches_status (checked_status report.at_least (answer_if_none report.scope f g)) stretches;
+    is_end = record { stretches = stretches; are_all = all; ends = ends; printed = appends_known old _; status_is = refl };
+    prefix = prefix;
   }
-
--- those with one more that are in the scope
-in_more : {X : Type 0} (scope : Scope) (list : List (ToldStretch X)) (told : ToldStretch X)
-    → told_in scope list ++ cond (counts_in scope (is_some told.stretch.by_table)) (told ∷ []) [] ≡ told_in scope (list ++ told ∷ [])
-in_more scope list told = ap (λ more. told_in scope list ++ more) (sym (in_one scope told)) ∙ sym (in_append scope list (told ∷ []))
-
--- their lines
-more_lines : {X : Type 0} (line : ToldStretch X → List ℕ) (scope : Scope) (list : List (ToldStretch X)) (told : ToldStretch X)
-    (is_answered : Bool) → is_answered ≡ is_some told.stretch.by_table
-    → flat_map line (told_in scope list) ++ cond (counts_in scope is_answered) (line told) []
-    ≡ flat_map line (told_in scope (list ++ told ∷ []))
-more_lines {X} line scope list told is_answered same =
-    let counts = counts_in scope (is_some told.stretch.by_table) in
-    let joined = flat_map-append line (told_in scope list) (cond counts (told ∷ []) []) in
-    grind (arith, same, one_line line told counts, joined, in_more scope list told)
-
-module _ {D X : Type 0} {of : D → Stretch X} {line : ToldStretch X → List ℕ} {AreGiven : List D → Type 0} {IsEnd : ToldStretch X → Type 0}
-    {scope : Scope} {old : Option (List ℕ)} {is_right : Bool} where
-  pub printed_more : {AreMore : List D → Type 0} {now new : Option (List ℕ)} {is_answered was_right : Bool} (d : D) (end : Option Position)
-      → (h : HasPrinted of line AreGiven IsEnd scope old now was_right) → AreMore (h.given ++ d ∷ []) → IsEnd (told_with (of d) end)
-      → is_answered ≡ is_some (of d).by_table
-      → Appends now new (cond (counts_in scope is_answered) (line (told_with (of d) end)) [])
-      → is_right ≡ cond (counts_in scope is_answered) false was_right
-      → HasPrinted of line AreMore IsEnd scope old new is_right
-  printed_more {is_answered = is_answered} {was_right = was_right} d end h so is_end same text right =
-      let told = told_with (of d) end in
-      let counts = counts_in scope (is_some (of d).by_table) in
-      record {
-        given = h.given ++ d ∷ [];
-        so = so;
-        told = h.told ++ told ∷ [];
-        same = map-append (λ (told : ToldStretch X). told.stretch) h.told (told ∷ [])
-            ∙ ap (λ (list : List (Stretch X)). list ++ of d ∷ []) h.same ∙ sym (map-append of h.given (d ∷ []));
-        ends = each_append IsEnd h.told (told ∷ []) h.ends (is_end, tt);
-        text = grind (arith, common_steps, Appends-trans, more_lines line scope h.told told is_answered same);
-        right = grind (arith, right, h.right, same, none_more (told_in scope h.told) told counts, in_more scope h.told told);
-      }
-
--- all were given
-pub all_printed : {D X : Type 0} {of : D → Stretch X} {line : ToldStretch X → List ℕ} {AreGiven : List D → Type 0} {report : Report}
-    {old : Option (List ℕ)} {is_right : Bool} {f g : Position → Option X} {new : Option (List ℕ)} {coverage : Coverage}
-    {if_right : Option Coverage}
-    → (h : HasPrinted of line AreGiven (IsEndTold report.ends f g) report.scope old new is_right) → AreAllStretches f g (map of h.given)
-    → coverage ≡ coverage_of f g → if_right ≡ cond is_right (Some coverage) None
-    → ArePrinted line report f g old new if_right
-all_printed {X = X} {report = report} {is_right = is_right} {f = f} {g = g} {coverage = coverage} {if_right = if_right} h all coverage_is
-    if_right_is = record {
-      stretches = told_in report.scope h.told;
-      are_all = all_in report.scope f g h.told (subst (AreAllStretches f g) (sym h.same) all);
-      ends = each_in (IsEndTold report.ends f g) report.scope h.told h.ends;
-      text = h.text;
-      coverage_is = if_right_is ∙ ap (λ (right : Bool). cond right (Some coverage) None) h.right ∙ by_list (told_in report.scope h.told)
-          ∙ ap (λ (c : Coverage). if_none (told_in report.scope h.told) c) coverage_is;
-    }
-  where
-    by_list : (list : List (ToldStretch X)) → cond (has_none list) (Some coverage) None ≡ if_none list coverage
-    by_list [] = refl
-    by_list (first ∷ list) = refl
-
--- how much is answered, by the two counts
-pub covered_is : {X : Type 0} (f g : Position → Option X) (missed all : ℕ) → missed ≡ addresses_answered (where_missed g f)
-    → all ≡ addresses_answered f → coverage_but missed all ≡ coverage_of f g
-covered_is f g missed all is_missed is_all = rw (is_missed, is_all) refl
-
--- ---- a writer that was stopped
-
-prefix_of_all : {X : Type 0} (line : X → List ℕ) (none : List ℕ) (told more : List X) (old new : Option (List ℕ))
-    → AppendsPrefix old new (flat_map line told) → AppendsPrefix old new (lines_or line none (told ++ more))
-prefix_of_all line none [] more old new prefix = prefix_before old new [] (lines_or line none more) prefix
-prefix_of_all line none (first ∷ told) more old new prefix = grind (arith, common_steps, prefix_same, flat_map-append, prefix_before)
-
--- a prefix of the lines of these stretches
-begun_of : {X : Type 0} {line : ToldStretch X → List ℕ} {report : Report} {f g : Position → Option X} {old new : Option (List ℕ)}
-    (stretches : List (ToldStretch X)) → AreAllIn report.scope f g (stretches_in stretches)
-    → AllByRecursion (IsEndTold report.ends f g) stretches
-    → AppendsPrefix old new (lines_or line (checked_line report.at_least (answer_if_none report.scope f g)) stretches)
-    → HasBegun (AreStretchesPrinted line report f g old) old new
-begun_of {line = line} {report = report} {f = f} {g = g} {old = old} stretches all ends prefix = record {
-  whole = lines_or line (checked_line report.at_least (answer_if_none report.scope f g)) stretches;
-  ending = stretches_status (checked_status report.at_least (answer_if_none report.scope f g)) stretches;
-  is_end = record { stretches = stretches; are_all = all; ends = ends; printed = appends_known old _; status_is = refl };
-  prefix = prefix;
-}
 
 -- Others may follow those that were given, each with an end.
 abbrev pub HasMore : {D X : Type 0} → (D → Stretch X) → (Position → Option X) → (Position → Option X) → List D → Type 0
@@ -254,7 +113,8 @@ HasMore {D} {X} of f g given = (more : List (Stretch X)) × AllAfter f g (map of
 
 -- these, with their ends if those are told
 with_ends : {X : Type 0} (f g : Position → Option X) (ends : Bool) (list : List (Stretch X)) → AllByRecursion (HasEnd f g) list
-    → (told : List (ToldStretch X)) × (stretches_in told ≡ list) × AllByRecursion (IsEndTold ends f g) told
+    → (told : List (ToldStretch X)) × (stretches_in told ≡ list)
+    × AllByRecursion (λ (one : ToldStretch X). IsEndTold ends (EndsAt f g one.stretch) one.end) told
 with_ends f g ends [] h = ([], refl, tt)
 with_ends f g true (stretch ∷ list) h =
     let rest = with_ends f g true list h.1 in
@@ -263,56 +123,166 @@ with_ends f g false (stretch ∷ list) h =
     let rest = with_ends f g false list h.1 in
     ((record { stretch = stretch; end = None }) ∷ rest.0, ap (λ more. stretch ∷ more) rest.1, (refl, rest.2))
 
-prefix_begun : {D X : Type 0} {line : ToldStretch X → List ℕ} {report : Report} {f g : Position → Option X} {old new : Option (List ℕ)}
-    (of : D → Stretch X) (given : List D) (told : List (ToldStretch X)) → stretches_in told ≡ map of given
-    → AllByRecursion (IsEndTold report.ends f g) told → HasMore of f g given
-    → AppendsPrefix old new (flat_map line (told_in report.scope told))
-    → HasBegun (AreStretchesPrinted line report f g old) old new
-prefix_begun {X = X} {line = line} {report = report} {f = f} {g = g} {old = old} {new = new} of given told same ends later prefix =
-    let rest = with_ends f g report.ends later.0 later.1.1 in
-    let whole = told ++ rest.0 in
-    let joined : stretches_in whole ≡ map of given ++ later.0 =
-    map-append (λ (t : ToldStretch X). t.stretch) told rest.0
-    ∙ ap (λ (list : List (Stretch X)). list ++ stretches_in rest.0) same
-    ∙ ap (λ (list : List (Stretch X)). map of given ++ list) rest.1 in
-    begun_of (told_in report.scope whole) (all_in report.scope f g whole (subst (AreAllStretches f g) (sym joined) later.1.0))
-    (each_in (IsEndTold report.ends f g) report.scope whole (each_append (IsEndTold report.ends f g) told rest.0 ends rest.2))
-    (subst (λ (list : List (ToldStretch X)).
-    AppendsPrefix old new (lines_or line (checked_line report.at_least (answer_if_none report.scope f g)) list))
-    (sym (in_append report.scope told rest.0))
-    (prefix_of_all line (checked_line report.at_least (answer_if_none report.scope f g)) (told_in report.scope told)
-    (told_in report.scope rest.0) old new prefix))
+-- ---- differences that were given, as stretches
 
-module _ {D X : Type 0} {of : D → Stretch X} {line : ToldStretch X → List ℕ} {report : Report} {f g : Position → Option X}
-    {old new : Option (List ℕ)} where
-  -- before the next stretch was found
-  pub stopped_between : {AreGiven : List D → Type 0} {is_right : Bool}
-      → (h : HasPrinted of line AreGiven (IsEndTold report.ends f g) report.scope old new is_right)
-      → HasMore of f g h.given → HasBegun (AreStretchesPrinted line report f g old) old new
-  stopped_between h later = prefix_begun of h.given h.told h.same h.ends later (prefix_all old new _ h.text)
+module _ {D X : Type 0} (of : D → Stretch X) where
+  abbrev pub as_told : ToldDifference D → ToldStretch X
+  as_told one = told_with (of one.difference) one.end
 
-  -- within the line of a stretch
-  pub stopped_within : {AreGiven : List D → Type 0} {now : Option (List ℕ)} {is_answered is_right : Bool} (d : D) (end : Option Position)
-      → (h : HasPrinted of line AreGiven (IsEndTold report.ends f g) report.scope old now is_right)
-      → HasMore of f g (h.given ++ d ∷ []) → IsEndTold report.ends f g (told_with (of d) end)
-      → is_answered ≡ is_some (of d).by_table
-      → AppendsPrefix now new (cond (counts_in report.scope is_answered) (line (told_with (of d) end)) [])
-      → HasBegun (AreStretchesPrinted line report f g old) old new
-  stopped_within {is_answered = is_answered} d end h later is_end same prefix =
-      let told = told_with (of d) end in
-      let lines = more_lines line report.scope h.told told is_answered same in
-      prefix_begun of (h.given ++ d ∷ []) (h.told ++ told ∷ [])
-      (map-append (λ (t : ToldStretch X). t.stretch) h.told (told ∷ [])
-      ∙ ap (λ (list : List (Stretch X)). list ++ of d ∷ []) h.same ∙ sym (map-append of h.given (d ∷ [])))
-      (each_append (IsEndTold report.ends f g) h.told (told ∷ []) h.ends (is_end, tt)) later
-      (grind (arith, lines, prefix_after, h.text))
+  -- whether the table answers there
+  abbrev pub is_answered : D → Bool
+  is_answered d = is_some (of d).by_table
+
+  given_in : (scope : Scope) (told : List (ToldDifference D))
+      → map as_told (told_in is_answered scope told) ≡ in_scope scope (map as_told told)
+  given_in All [] = refl
+  given_in All (one ∷ told) = ap (λ rest. as_told one ∷ rest) (given_in All told)
+  given_in Answered [] = refl
+  given_in Answered (one ∷ told) =
+      by_answer (of one.difference).by_table (told_in is_answered Answered told) ∙ ap (if_some (of one.difference).by_table (as_told one))
+      (given_in Answered told)
+    where
+      by_answer : (answer : Option X) (rest : List (ToldDifference D))
+          → map as_told (cond (is_some answer) (one ∷ rest) rest) ≡ if_some answer (as_told one) (map as_told rest)
+      by_answer None rest = refl
+      by_answer (Some said) rest = refl
+
+  given_stretches : (told : List (ToldDifference D)) → stretches_in (map as_told told) ≡ map of (differences_of told)
+  given_stretches [] = refl
+  given_stretches (one ∷ told) = ap (λ rest. of one.difference ∷ rest) (given_stretches told)
+
+  given_ends : (ends : Bool) (IsEnd : Stretch X → Position → Type 0) (told : List (ToldDifference D))
+      → AreEndsTold ends (λ d. IsEnd (of d)) told
+      → AllByRecursion (λ (one : ToldStretch X). IsEndTold ends (IsEnd one.stretch) one.end) (map as_told told)
+  given_ends ends IsEnd [] h = tt
+  given_ends ends IsEnd (one ∷ told) h = (h.0, given_ends ends IsEnd told h.1)
+
+  given_lines : (line : ToldStretch X → List ℕ) (scope : Scope) (told : List (ToldDifference D))
+      → flat_map (λ one. line (as_told one)) (told_in is_answered scope told) ≡ flat_map line (in_scope scope (map as_told told))
+  given_lines line scope told =
+      sym (flat_map-map line as_told (told_in is_answered scope told)) ∙ ap (flat_map line) (given_in scope told)
+
+  given_none : (scope : Scope) (told : List (ToldDifference D)) (coverage : Coverage)
+      → if_none (told_in is_answered scope told) coverage ≡ if_none (in_scope scope (map as_told told)) coverage
+  given_none scope told coverage =
+      by_list (told_in is_answered scope told) ∙ ap (λ (list : List (ToldStretch X)). if_none list coverage) (given_in scope told)
+    where
+      by_list : (list : List (ToldDifference D)) → if_none list coverage ≡ if_none (map as_told list) coverage
+      by_list [] = refl
+      by_list (first ∷ list) = refl
+
+-- These lines were appended, of all stretches in the scope. If there is none, the table answers so much.
+pub record AreAllPrinted {X : Type 0} (line : ToldStretch X → List ℕ) (report : Report) (said : Position → Option X → Type 0)
+    (by_section by_table : Position → Option X) (old new : Option (List ℕ)) (coverage : Option Coverage) : Type 0 where
+  pub stretches : List (ToldStretch X)
+  pub are_all : AreAllIn report.any_copy report.scope said by_section by_table (stretches_in stretches)
+  pub ends : HaveEnds report said by_section by_table stretches
+  pub text : Appends old new (flat_map line stretches)
+  pub coverage_is : coverage ≡ if_none stretches (coverage_of by_section by_table)
+
+-- how much is answered, by the two counts
+covered_is : {X : Type 0} (f g : Position → Option X) (coverage : Coverage) → AreCounts g f coverage.answered coverage.all
+    → coverage ≡ coverage_of f g
+covered_is f g coverage counted =
+    ap (λ (answered : ℕ). record { answered = answered; all = coverage.all }) counted.both
+    ∙ ap (λ (all : ℕ). record { answered = (coverage_of f g).answered; all = all }) counted.section
+
+-- the line of a difference with the end of its stretch
+abbrev pub line_of : {D X : Type 0} → (D → Stretch X) → (ToldStretch X → List ℕ) → D → Option Position → List ℕ
+line_of of line d end = line (told_with (of d) end)
+
+module _ {D X : Type 0} (of : D → Stretch X) {line : ToldStretch X → List ℕ} {report : Report} (said : Position → Option X → Type 0)
+    {f g : Position → Option X} {old new : Option (List ℕ)} where
+  -- those at which the two differ
+  pub kept_printed : {coverage : Option Coverage} → report.any_copy ≡ false
+      → ArePrinted (line_of of line) (is_answered of)
+      (λ given covered. AreAllStretches f g (map of given) × AreCounts g f covered.answered covered.all) (λ d. EndsAt f g (of d))
+      report.ends report.scope old new coverage
+      → AreAllPrinted line report said f g old new coverage
+  kept_printed kept h =
+      let told = map (as_told of) h.told in
+      record {
+        stretches = in_scope report.scope told;
+        are_all = subst (λ (b : Bool). AreAllIn b report.scope said f g (stretches_in (in_scope report.scope told))) (sym kept)
+            (kept_in report said f g report.scope told (subst (AreAllStretches f g) (sym (given_stretches of h.told)) h.are_all.0));
+        ends = each_in _ report.scope told
+            (subst (λ (b : Bool). AllByRecursion (λ (one : ToldStretch X). IsEndTold report.ends
+            (EndsIn b report.scope said f g one.stretch) one.end) told) (sym kept)
+            (given_ends of report.ends (EndsAt f g) h.told h.ends_told));
+        text = subst (Appends old new) (given_lines of line report.scope h.told) h.text;
+        coverage_is = h.found_is ∙ given_none of report.scope h.told h.coverage
+            ∙ ap (λ (c : Coverage). if_none (in_scope report.scope told) c) (covered_is f g h.coverage h.are_all.1);
+      }
+
+  pub kept_begun : {G : Type 0} {HasGiven : G → List D → Type 0} → report.any_copy ≡ false
+      → ((now : G) (given : List D) → HasGiven now given → HasMore of f g given)
+      → AreBegun (line_of of line) (is_answered of) HasGiven (λ d. EndsAt f g (of d)) report.ends report.scope old new
+      → HasBegun (AreStretchesPrinted line report said f g old) old new
+  kept_begun kept later h =
+      let told = map (as_told of) h.told in
+      let more = later h.given (differences_of h.told) h.so in
+      let rest = with_ends f g report.ends more.0 more.1.1 in
+      let whole = told ++ rest.0 in
+      let joined : stretches_in whole ≡ map of (differences_of h.told) ++ more.0 =
+      map-append (λ (t : ToldStretch X). t.stretch) told rest.0
+      ∙ ap (λ (list : List (Stretch X)). list ++ stretches_in rest.0) (given_stretches of h.told)
+      ∙ ap (λ (list : List (Stretch X)). map of (differences_of h.told) ++ list) rest.1 in
+      begun_of report said f g (in_scope report.scope whole)
+      (subst (λ (b : Bool). AreAllIn b report.scope said f g (stretches_in (in_scope report.scope whole))) (sym kept)
+      (kept_in report said f g report.scope whole (subst (AreAllStretches f g) (sym joined) more.1.0)))
+      (each_in _ report.scope whole
+      (subst (λ (b : Bool). AllByRecursion (λ (one : ToldStretch X). IsEndTold report.ends
+      (EndsIn b report.scope said f g one.stretch) one.end) whole) (sym kept)
+      (each_append (λ (one : ToldStretch X). IsEndTold report.ends (EndsAt f g one.stretch) one.end) told rest.0
+      (given_ends of report.ends (EndsAt f g) h.told h.ends_told) rest.2)))
+      (subst (λ (list : List (ToldStretch X)).
+      AppendsPrefix old new (lines_or line (checked_line report.at_least (answer_if_none report.scope f g)) list))
+      (sym (in_append report.scope told rest.0))
+      (prefix_of_all report said f g line (checked_line report.at_least (answer_if_none report.scope f g)) (in_scope report.scope told)
+      (in_scope report.scope rest.0) old new (subst (AppendsPrefix old new) (given_lines of line report.scope h.told) h.prefix)))
+
+  -- those at which the table isn't right, which were given of the scope alone
+  pub wrong_printed : {coverage : Option Coverage} → report.any_copy ≡ true
+      → ArePrinted (line_of of line) (is_answered of)
+      (λ given covered. AreAllWrong report.scope said f g (map of given) × AreCounts g f covered.answered covered.all)
+      (λ d. EndsWrong report.scope said f g (of d)) report.ends All old new coverage
+      → AreAllPrinted line report said f g old new coverage
+  wrong_printed any h =
+      let told = map (as_told of) h.told in
+      record {
+        stretches = told;
+        are_all = subst (λ (b : Bool). AreAllIn b report.scope said f g (stretches_in told)) (sym any)
+            (subst (AreAllWrong report.scope said f g) (sym (given_stretches of h.told)) h.are_all.0);
+        ends = subst (λ (b : Bool). AllByRecursion (λ (one : ToldStretch X). IsEndTold report.ends
+            (EndsIn b report.scope said f g one.stretch) one.end) told) (sym any)
+            (given_ends of report.ends (EndsWrong report.scope said f g) h.told h.ends_told);
+        text = subst (Appends old new) (given_lines of line All h.told) h.text;
+        coverage_is = h.found_is ∙ given_none of All h.told h.coverage
+            ∙ ap (λ (c : Coverage). if_none told c) (covered_is f g h.coverage h.are_all.1);
+      }
+
+  pub wrong_begun : {G : Type 0} {HasGiven : G → List D → Type 0} → report.any_copy ≡ true
+      → ((now : G) (given : List D) → HasGiven now given → AreFirstWrong report.scope said f g (map of given))
+      → AreBegun (line_of of line) (is_answered of) HasGiven (λ d. EndsWrong report.scope said f g (of d)) report.ends All old new
+      → AreFirstPrinted line report said f g old new
+  wrong_begun any first h =
+      let told = map (as_told of) h.told in
+      record {
+        stretches = told;
+        are_first = subst (AreFirstWrong report.scope said f g) (sym (given_stretches of h.told))
+            (first h.given (differences_of h.told) h.so);
+        ends = subst (λ (b : Bool). AllByRecursion (λ (one : ToldStretch X). IsEndTold report.ends
+            (EndsIn b report.scope said f g one.stretch) one.end) told) (sym any)
+            (given_ends of report.ends (EndsWrong report.scope said f g) h.told h.ends_told);
+        prefix = subst (AppendsPrefix old new) (given_lines of line All h.told) h.prefix;
+      }
 
 -- ---- the end
 
--- what the table misses of all is what it doesn't answer
+-- what the table answers of all
 end_answer : {X : Type 0} (scope : Scope) (f g : Position → Option X) → answer_of scope (coverage_of f g) ≡ answer_if_none scope f g
 end_answer All f g = refl
-end_answer Answered f g = grind (arith, common_steps, answered_and_missed)
+end_answer Answered f g = refl
 
 whole_text : {X : Type 0} (line : ToldStretch X → List ℕ) (report : Report) (f g : Position → Option X) (stretches : List (ToldStretch X))
     → flat_map line stretches ++ end_text report (if_none stretches (coverage_of f g))
@@ -320,33 +290,33 @@ whole_text : {X : Type 0} (line : ToldStretch X → List ℕ) (report : Report) 
 whole_text line report f g [] = ap (checked_line report.at_least) (end_answer report.scope f g)
 whole_text line report f g (first ∷ stretches) = append-nil (flat_map line (first ∷ stretches))
 
-pub end_told : {X : Type 0} {line : ToldStretch X → List ℕ} {report : Report} {f g : Position → Option X} {old now new : Option (List ℕ)}
-    {coverage : Option Coverage} {status : Status} → ArePrinted line report f g old now coverage
-    → Appends now new (end_text report coverage) → status ≡ end_status report coverage
-    → AreStretchesPrinted line report f g old new status
-end_told {X} {line} {report} {f} {g} {old} {now} {new} h text status_is =
-    let end : Appends now new (end_text report (if_none h.stretches (coverage_of f g))) =
-    subst (λ (c : Option Coverage). Appends now new (end_text report c)) h.coverage_is text in
-    record {
-      stretches = h.stretches;
-      are_all = h.are_all;
-      ends = h.ends;
-      printed =
-          subst (Appends old new) (whole_text line report f g h.stretches)
-          (Appends-trans old now new (flat_map line h.stretches) (end_text report (if_none h.stretches (coverage_of f g))) h.text end);
-      status_is = status_is ∙ ap (end_status report) h.coverage_is ∙ by_list h.stretches;
-    }
-  where
-    by_list : (list : List (ToldStretch X)) → end_status report (if_none list (coverage_of f g))
-        ≡ stretches_status (checked_status report.at_least (answer_if_none report.scope f g)) list
-    by_list [] = ap (checked_status report.at_least) (end_answer report.scope f g)
-    by_list (first ∷ list) = refl
+module _ {X : Type 0} {line : ToldStretch X → List ℕ} {report : Report} {said : Position → Option X → Type 0}
+    {f g : Position → Option X} {old now new : Option (List ℕ)} {coverage : Option Coverage} where
+  pub end_told : {status : Status} → AreAllPrinted line report said f g old now coverage
+      → Appends now new (end_text report coverage) → status ≡ end_status report coverage
+      → AreStretchesPrinted line report said f g old new status
+  end_told h text status_is =
+      let end : Appends now new (end_text report (if_none h.stretches (coverage_of f g))) =
+      subst (λ (c : Option Coverage). Appends now new (end_text report c)) h.coverage_is text in
+      record {
+        stretches = h.stretches;
+        are_all = h.are_all;
+        ends = h.ends;
+        printed =
+            subst (Appends old new) (whole_text line report f g h.stretches)
+            (Appends-trans old now new (flat_map line h.stretches) (end_text report (if_none h.stretches (coverage_of f g))) h.text end);
+        status_is = status_is ∙ ap (end_status report) h.coverage_is ∙ by_list h.stretches;
+      }
+    where
+      by_list : (list : List (ToldStretch X)) → end_status report (if_none list (coverage_of f g))
+          ≡ stretches_status (checked_status report.at_least (answer_if_none report.scope f g)) list
+      by_list [] = ap (checked_status report.at_least) (end_answer report.scope f g)
+      by_list (first ∷ list) = refl
 
-pub end_begun : {X : Type 0} {line : ToldStretch X → List ℕ} {report : Report} {f g : Position → Option X} {old now new : Option (List ℕ)}
-    {coverage : Option Coverage} → ArePrinted line report f g old now coverage
-    → AppendsPrefix now new (end_text report coverage) → HasBegun (AreStretchesPrinted line report f g old) old new
-end_begun {X} {line} {report} {f} {g} {old} {now} {new} h prefix =
-    begun_of h.stretches h.are_all h.ends
-    (prefix_same old new _ _ (whole_text line report f g h.stretches)
-    (prefix_after old now new (flat_map line h.stretches) (end_text report (if_none h.stretches (coverage_of f g))) h.text
-    (subst (λ (c : Option Coverage). AppendsPrefix now new (end_text report c)) h.coverage_is prefix)))
+  pub end_begun : AreAllPrinted line report said f g old now coverage
+      → AppendsPrefix now new (end_text report coverage) → HasBegun (AreStretchesPrinted line report said f g old) old new
+  end_begun h prefix =
+      begun_of report said f g h.stretches h.are_all h.ends
+      (prefix_same old new _ _ (whole_text line report f g h.stretches)
+      (prefix_after old now new (flat_map line h.stretches) (end_text report (if_none h.stretches (coverage_of f g))) h.text
+      (subst (λ (c : Option Coverage). AppendsPrefix now new (end_text report c)) h.coverage_is prefix)))

@@ -1,12 +1,14 @@
 -- The lines that are printed about a section: why it isn't good, and its answers at positions.
 use Rattle.std.specs.Prelude.{◌≡◌, ◌==◌, ◌+◌, ℕ, List, ◌++◌, drop, take, if◌then◌else◌, None, Option, Some, codes, decimal, position, []}
-use Rattle.std.specs.Prelude.{◌∷◌, suc, zero, flat_map}
+use Rattle.std.specs.Prelude.{◌∷◌, Bool, false, suc, true, zero, flat_map}
 use Rattle.std.specs.Io.KnownBytes.{Appends, Keeps}
 use Rattle.lnt_spans.specs.declared.answer.Answer.{Answer}
 use Rattle.lnt_spans.specs.declared.position.Position.{Position}
 use Rattle.lnt_lines.specs.declared.no.No.{No}
 use Rattle.lnt_lines.specs.declared.section.JudgedIndex.{JudgedIndex}
 use Rattle.lnt_lines.specs.declared.section.JudgedIndex.TheVariants.{Good, Bad}
+use Rattle.lnt_lines.specs.declared.options.Options.{Options}
+use Rattle.lnt_lines.specs.Judging.{IsJudgedIndex, IsJudgedWithCopies}
 use Rattle.lnt_io.specs.Prefixes.{AppendsPrefix}
 use Rattle.lnt_sequences.specs.Sequences.{line_answer, Selection}
 use Rattle.lnt_lines.specs.Indexed.{file_path_in, Indexed, file_count_in, file_sum_in}
@@ -16,6 +18,11 @@ use Rattle.lnt_lines.specs.FaultTexts.{no_text}
 use Rattle.csv.specs.Writing.{default_writer, row_text}
 use Rattle.hex.specs.Hex.{encode_lower}
 use Rattle.lnt_files.specs.Paths.{path_or_empty}
+
+-- The judgement is true of the section; and if copies are asked for (with_copies), the index has the extents of all live sequences.
+abbrev pub IsJudgedBy : Bool → List ℕ → List ℕ → Options → List ℕ → JudgedIndex → Type 0
+IsJudgedBy false = IsJudgedIndex
+IsJudgedBy true = IsJudgedWithCopies
 
 -- The section is good, so its index was given.
 abbrev pub IsIndexGiven : JudgedIndex → Type 0

@@ -9,10 +9,10 @@
 
 mod addresses;
 mod answer_line;
-mod differences;
 mod digest;
 mod display;
 mod files;
+mod given;
 mod judge;
 pub mod laws;
 mod line_ends;
@@ -22,6 +22,7 @@ mod stretch_lines;
 mod stretches;
 mod sums;
 mod table;
+mod wrong;
 
 pub use addresses::print_addresses;
 pub use digest::{Agreement, md5_agrees, sum_of};

@@ -14,6 +14,8 @@ pub struct Report {
     pub scope: Scope,
     /// Whether the line of a stretch tells its end too.
     pub ends: bool,
+    /// Whether the answer of any live sequence that holds a position is right there.
+    pub any_copy: bool,
     /// How many of a hundred addresses of the section a table has to answer that is right wherever it answers.
     pub at_least: u64,
 }

@@ -1,5 +1,5 @@
 //! The lines of stretches in a scope.
-ghost use Rattle.std.specs.Prelude.{◌≡◌, [], true, false, cond, Some, None, IfErr, IfSome, OnErr, OnOk};
+ghost use Rattle.std.specs.Prelude.{◌≡◌, [], true, false, cond, Some, None, IfErr, OnErr, OnOk};
 ghost use Rattle.std.specs.Io.KnownBytes.{Appends};
 ghost use Rattle.lnt_answers.specs.Stepping.{counts_in};
 ghost use Rattle.lnt_io.specs.Prefixes.{AppendsPrefix};
@@ -7,10 +7,67 @@ ghost use Rattle.lnt_io.specs.IoStops.{IsPrinting};
 
 use crate::display::put_text;
 use lnt_io::{IoStop, write_whole};
-use lnt_table::{Coverage, Scope};
-use std::alloc::Global;
-use std::fmt;
+use lnt_spans::{Difference, Position};
+use lnt_table::{Coverage, DifferenceByPath, PathDifferenceLine, Scope};
+use lnt_text::DifferenceLine;
+use std::alloc::{AllocError, Global};
 use std::io::Write;
+
+// A difference with which a stretch begins, as it is printed: `shown` is its line, and `answered` tells whether the table answers there.
+pub(crate) trait ShownStretch {
+    ghost use Rattle.std.specs.Prelude.{◌≡◌, ◌++◌, ℕ, Bool, List, Option, OnOk};
+    ghost use Rattle.lnt_spans.specs.declared.position.Position.{Position as SpecPosition};
+
+    ghost shown: { Self → Option SpecPosition → List ℕ };
+
+    ghost answered: { Self → Bool };
+
+    // Whether the table answers there.
+    fn is_answered(&self) -> bool
+        ensures { result ≡ answered self.now };
+
+    // Appends its line, with the end of its stretch, if that is told.
+    fn put_line(&self, end: Option<Position>, text: &mut Vec<u8>) -> Result<(), AllocError>
+        ensures { OnOk result (text.new.items ≡ text.old.items ++ shown self.now end) };
+}
+
+impl ShownStretch for Difference {
+    ghost use Rattle.std.specs.Prelude.{is_some};
+    ghost use Rattle.lnt_spans.specs.Differences.{stretch_of};
+    ghost use Rattle.lnt_answers.specs.Stretches.{stretch_line, told_with};
+
+    ghost shown = { λ difference end. stretch_line (told_with (stretch_of difference) end) };
+
+    ghost answered = { λ difference. is_some difference.by_table };
+
+    fn is_answered(&self) -> bool {
+        self.by_table.is_some()
+    }
+
+    fn put_line(&self, end: Option<Position>, text: &mut Vec<u8>) -> Result<(), AllocError> {
+        let line = DifferenceLine(*self, end);
+        put_text(&format_args!("{line}\n"), text)
+    }
+}
+
+impl ShownStretch for DifferenceByPath {
+    ghost use Rattle.std.specs.Prelude.{is_some};
+    ghost use Rattle.lnt_compare.specs.PathStretches.{stretch_of};
+    ghost use Rattle.lnt_answers.specs.Stretches.{path_stretch_line, told_with};
+
+    ghost shown = { λ difference end. path_stretch_line (told_with (stretch_of difference) end) };
+
+    ghost answered = { λ difference. is_some (stretch_of difference).by_table };
+
+    fn is_answered(&self) -> bool {
+        self.by_table.is_some()
+    }
+
+    fn put_line(&self, end: Option<Position>, text: &mut Vec<u8>) -> Result<(), AllocError> {
+        let line = PathDifferenceLine(self, end);
+        put_text(&format_args!("{line}\n"), text)
+    }
+}
 
 // Prints the lines of those stretches that are in a scope.
 #[derive(Drop)]
@@ -35,26 +92,27 @@ impl StretchLines {
         }
     }
 
-    // Prints the line of a stretch, if it is in the scope; this is the text of its line. If it stops, a prefix has been written.
-    pub(crate) fn print<T: fmt::Display, W: Write>(
+    // Prints the line of a stretch, if it is in the scope. If it stops, a prefix has been written.
+    pub(crate) fn print<D: ShownStretch, W: Write>(
         &mut self,
-        is_answered: bool,
-        line: &T,
+        difference: &D,
+        end: Option<Position>,
         out: &mut W,
     ) -> Result<(), IoStop>
         ensures err { IfErr result IsPrinting }
-        ensures line { IfSome (T.output line.now) (λ text. OnOk result (Appends (W.contents out.old) (W.contents out.new)
-            (cond (counts_in self.old.scope is_answered) text []))) }
-        ensures prefix { IfSome (T.output line.now) (λ text. OnErr result (AppendsPrefix (W.contents out.old) (W.contents out.new)
-            (cond (counts_in self.old.scope is_answered) text []))) }
+        ensures line { OnOk result (Appends (W.contents out.old) (W.contents out.new)
+            (cond (counts_in self.old.scope (D.answered difference.now)) (D.shown difference.now end) [])) }
+        ensures prefix { OnErr result (AppendsPrefix (W.contents out.old) (W.contents out.new)
+            (cond (counts_in self.old.scope (D.answered difference.now)) (D.shown difference.now end) [])) }
         ensures scope { self.new.scope ≡ self.old.scope }
-        ensures right { OnOk result (self.new.is_right ≡ cond (counts_in self.old.scope is_answered) false self.old.is_right) }
+        ensures right { OnOk result (self.new.is_right
+            ≡ cond (counts_in self.old.scope (D.answered difference.now)) false self.old.is_right) }
     {
-        if !is_in(self.scope, is_answered) {
+        if !is_in(self.scope, difference.is_answered()) {
             return Ok(());
         }
         self.room.clear();
-        put_text(line, &mut self.room)?;
+        difference.put_line(end, &mut self.room)?;
         write_whole(out, self.room.as_slice())?;
         self.is_right = false;
         Ok(())

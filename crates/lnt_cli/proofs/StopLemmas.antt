@@ -1,5 +1,5 @@
 -- Answers that were stopped.
-use Rattle.std.proofs.Common.{ℕ, List, ◌⊎◌, Option, IsErr, Result, Ok, Err, OnErr, inl, inr, true, false}
+use Rattle.std.proofs.Common.{Bool, ℕ, List, ◌⊎◌, Option, IsErr, Result, Ok, Err, OnErr, inl, inr, true, false}
 use Rattle.std.proofs.lemmas.Bool.{false≢true}
 use Rattle.std.specs.Io.KnownBytes.{Keeps}
 use Rattle.lnt_io.specs.Files.{FileState, FindsNoMore}
@@ -32,13 +32,13 @@ begun_of Kept Began Begins (Err stop) (inr began) so = inr (so began)
 -- ---- sections that are judged
 
 -- a prefix of the line of a section that isn't good
-pub begins_bad : {T E : Type 0} (from : Judging) (BeginsOfGood : Indexed → Option (List ℕ) → Option (List ℕ) → Type 0)
+pub begins_bad : {T E : Type 0} (any_copy : Bool) (from : Judging) (BeginsOfGood : Indexed → Option (List ℕ) → Option (List ℕ) → Type 0)
     (line general : List ℕ) (section old new : Option (List ℕ)) (ended : Result T E)
-    → Keeps old new ⊎ HasBegunLine (IsTrueOf from line general section) old new
-    → OnErr ended (Keeps old new ⊎ IsJudgedSo from (BeginsJudged BeginsOfGood old new) line general section)
-begins_bad from BeginsOfGood line general section old new (Ok answered) begun = tt
-begins_bad from BeginsOfGood line general section old new (Err stop) (inl kept) = inl kept
-begins_bad from BeginsOfGood line general section old new (Err stop) (inr bad) = inr (Bad bad.reason, bad.is_so, bad.prefix)
+    → Keeps old new ⊎ HasBegunLine (IsTrueOf any_copy from line general section) old new
+    → OnErr ended (Keeps old new ⊎ IsJudgedSo any_copy from (BeginsJudged BeginsOfGood old new) line general section)
+begins_bad any_copy from BeginsOfGood line general section old new (Ok answered) begun = tt
+begins_bad any_copy from BeginsOfGood line general section old new (Err stop) (inl kept) = inl kept
+begins_bad any_copy from BeginsOfGood line general section old new (Err stop) (inr bad) = inr (Bad bad.reason, bad.is_so, bad.prefix)
 
 -- ---- questions
 

@@ -11,7 +11,7 @@ use Rattle.lnt_io.specs.declared.status.Status.TheVariants.{Done}
 use Rattle.lnt_wire.specs.declared.format.Order.{Order}
 use Rattle.lnt_lines.specs.declared.options.Options.{Options}
 use Rattle.lnt_lines.specs.declared.section.JudgedIndex.{JudgedIndex}
-use Rattle.lnt_lines.specs.Judging.{IsJudgedIndex}
+use Rattle.lnt_answers.specs.Lines.{IsJudgedBy}
 use Rattle.lnt_words.specs.declared.request.FileQuestion.{FileQuestion}
 use Rattle.lnt_words.specs.declared.request.FileQuestion.TheVariants.{Check}
 use Rattle.lnt_words.specs.declared.request.Judging.{Judging}
@@ -28,7 +28,7 @@ use Rattle.lnt_answers.specs.Verdicts.{checked_line, checked_status}
 use Rattle.lnt_words.specs.Words.{size_bytes}
 use Rattle.lnt_symbols.specs.SymbolTables.{HasPrinted, symbol_answers}
 use Rattle.lnt_dump.specs.Printed.{IsUpgradePrinted}
-use Rattle.lnt_cli.specs.Questions.{AnswersGood, AnswersGoodFile, AnswersJudged, AnswersReading}
+use Rattle.lnt_cli.specs.Questions.{AnswersGood, AnswersGoodFile, AnswersJudged, AnswersReading, asks_copies}
 
 -- the options with which a section is read and judged
 abbrev pub options_in : Judging → Options
@@ -90,19 +90,21 @@ pub record IsChecked (from : Judging) (any_copy : Bool) (scope : Scope) (at_leas
 
 -- ---- sections that are judged
 
--- the judgement of the section is true
-abbrev pub IsTrueOf : Judging → List ℕ → List ℕ → Option (List ℕ) → JudgedIndex → Type 0
-IsTrueOf from line general section judged = IfSome section (λ bytes. IsJudgedIndex line general (options_in from) bytes judged)
+-- The judgement of the section is true; if any copy counts, that of the section with copies skipped, and the index has them all.
+abbrev pub IsTrueOf : Bool → Judging → List ℕ → List ℕ → Option (List ℕ) → JudgedIndex → Type 0
+IsTrueOf any_copy from line general section judged =
+    IfSome section (λ bytes. IsJudgedBy any_copy line general (options_by any_copy (options_in from)) bytes judged)
 
 -- that judgement, and a statement about it
-abbrev pub IsJudgedSo : Judging → (JudgedIndex → Type 0) → List ℕ → List ℕ → Option (List ℕ) → Type 0
-IsJudgedSo from IsTold line general section = (judged : JudgedIndex) × IsTrueOf from line general section judged × IsTold judged
+abbrev pub IsJudgedSo : Bool → Judging → (JudgedIndex → Type 0) → List ℕ → List ℕ → Option (List ℕ) → Type 0
+IsJudgedSo any_copy from IsTold line general section =
+    (judged : JudgedIndex) × IsTrueOf any_copy from line general section judged × IsTold judged
 
 -- The answer to the question was written, or why the section isn't good.
 abbrev pub AnswersQuestion : (List ℕ → FileState → Type 0) → Judging → Question → Option (List ℕ) → Option (List ℕ) → Status
     → Type 0
 AnswersQuestion finds from question old new status =
-    IsOfSection finds from (IsJudgedSo from (AnswersJudged (AnswersGood finds question) old new status))
+    IsOfSection finds from (IsJudgedSo false from (AnswersJudged (AnswersGood finds question) old new status))
 
 -- The answer to the question about the section and the file with this name was written. It is that of a check, or what a section that
 -- is judged says of the file.
@@ -111,7 +113,8 @@ abbrev pub AnswersFile : (List ℕ → FileState → Type 0) → Judging → Lis
 AnswersFile finds from file (Check false ends partial at_least any_copy) old new status =
     IsOfFile finds from file (IsChecked from any_copy (scope_in partial) at_least old new status)
 AnswersFile finds from file question old new status =
-    IsOfFile finds from file (λ bytes. IsJudgedSo from (AnswersJudged (AnswersGoodFile question bytes) old new status))
+    IsOfFile finds from file
+    (λ bytes. IsJudgedSo (asks_copies question) from (AnswersJudged (AnswersGoodFile question bytes) old new status))
 
 -- ---- sections that are read
 

@@ -34,7 +34,7 @@ use Rattle.lnt_answers.specs.SumLines.{AreSumsBegun, AreSumsPrinted, listed_file
 use Rattle.lnt_lines.specs.FaultTexts.{no_text}
 use Rattle.lnt_answers.specs.PathTables.{BeginsPrintedTable, IsPrintedTable}
 use Rattle.lnt_answers.specs.declared.stretches.Stretches.{Stretches}
-use Rattle.lnt_answers.specs.Stretches.{AreStretchesBegun, IsFaultPrinted, AreStretchesOfIndex, outcome_status}
+use Rattle.lnt_answers.specs.Stretches.{AreStretchesBegun, IsFaultPrinted, AreStretchesOfIndex, OfThese, outcome_status}
 
 -- ---- the answer if a section is read and its lines aren't judged
 --     known       the section's bytes, where these are known
@@ -85,8 +85,14 @@ AnswersGood finds (TableByPath false) index old new status = IsPathTablePrinted 
 AnswersGood finds Md5 index old new status = AreSumsPrinted finds index (listed_files index) old new status
 
 -- how a comparison at all positions is told
-abbrev pub report_in : Bool → Bool → ℕ → Report
-report_in ends partial at_least = record { scope = scope_in partial; ends = ends; at_least = at_least }
+abbrev pub report_in : Bool → Bool → ℕ → Bool → Report
+report_in ends partial at_least any_copy =
+    record { scope = scope_in partial; ends = ends; any_copy = any_copy; at_least = at_least }
+
+-- whether the question is one of a table, and any copy counts
+abbrev pub asks_copies : FileQuestion → Bool
+asks_copies (Lines op) = false
+asks_copies (Check all ends partial at_least any_copy) = any_copy
 
 -- What is written for a good section with this index and a table: the table's first fault, or all places in the scope where the two
 -- differ.
@@ -96,11 +102,11 @@ pub record AreTableStretchesPrinted (report : Report) (index : Indexed) (table o
   pub status_is : status ≡ outcome_status found
   pub so : AreStretchesOfIndex report index table old new found
 
--- The answer for a good section with this index and another file, of these bytes. Copies aren't asked of all positions.
+-- The answer for a good section with this index and another file, of these bytes.
 abbrev pub AnswersGoodFile : FileQuestion → Option (List ℕ) → Indexed → Option (List ℕ) → Option (List ℕ) → Status → Type 0
 AnswersGoodFile (Lines op) bytes index old new status = AreAddressesPrinted index op bytes old new status
 AnswersGoodFile (Check all ends partial at_least any_copy) bytes index old new status =
-    AreTableStretchesPrinted (report_in ends partial at_least) index bytes old new status
+    AreTableStretchesPrinted (report_in ends partial at_least any_copy) index bytes old new status
 
 -- The answer for a section with this judgement: for a good one this, and for another the line that says why it isn't good.
 abbrev pub AnswersJudged : (Indexed → Option (List ℕ) → Option (List ℕ) → Status → Type 0) → Option (List ℕ) → Option (List ℕ) → Status
@@ -130,8 +136,8 @@ BeginsGood finds (TableByPath false) index old new = BeginsPathTableText Four in
 -- those of that file.
 abbrev pub BeginsGoodFile : FileQuestion → Option (List ℕ) → Indexed → Option (List ℕ) → Option (List ℕ) → Type 0
 BeginsGoodFile (Lines op) bytes index old new = AreAddressesBegun index op bytes old new
-BeginsGoodFile (Check all ends partial at_least any_copy) bytes index old new = OfUnits index (λ selection. IfSome bytes
-    (λ text. AreStretchesBegun (report_in ends partial at_least) index selection text old new))
+BeginsGoodFile (Check all ends partial at_least any_copy) bytes index old new = OfThese any_copy index (λ selection. IfSome bytes
+    (λ text. AreStretchesBegun (report_in ends partial at_least any_copy) index selection text old new))
 
 -- A prefix of the answer for a section with this judgement.
 abbrev pub BeginsJudged : (Indexed → Option (List ℕ) → Option (List ℕ) → Type 0) → Option (List ℕ) → Option (List ℕ) → JudgedIndex

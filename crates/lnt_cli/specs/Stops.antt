@@ -30,7 +30,7 @@ use Rattle.lnt_words.specs.declared.request.Reading.{Reading}
 use Rattle.lnt_dump.specs.Printed.{IsUpgradeBegun}
 use Rattle.lnt_symbols.specs.SymbolTables.{BeginsPrinted, symbol_answers}
 use Rattle.lnt_cli.specs.Answered.{IsChecked, IsJudgedSo, IsOfBytes, IsOfFile, IsOfSection, IsOfUpgrade}
-use Rattle.lnt_cli.specs.Questions.{BeginsGood, BeginsGoodFile, BeginsJudged, BeginsReading}
+use Rattle.lnt_cli.specs.Questions.{BeginsGood, BeginsGoodFile, BeginsJudged, BeginsReading, asks_copies}
 
 -- how a run stops whose words aren't a request
 abbrev pub IsOfWords : WordsStop → CliStop → Type 0
@@ -172,7 +172,7 @@ IsCausedInCheck first old new name second was is other stop = IsOfCause
 -- The judgement of the section in the named file is true, and a prefix of the answer to the question was written.
 abbrev pub BeginsQuestion : (List ℕ → FileState → Type 0) → Judging → Question → Option (List ℕ) → Option (List ℕ) → Type 0
 BeginsQuestion finds from question old new =
-    IsOfSection finds from (IsJudgedSo from (BeginsJudged (BeginsGood finds question) old new))
+    IsOfSection finds from (IsJudgedSo false from (BeginsJudged (BeginsGood finds question) old new))
 
 -- a prefix of the answer to a check, of a table with these bytes (text)
 abbrev pub BeginsChecked : Judging → Bool → Scope → ℕ → Option (List ℕ) → Option (List ℕ) → Option (List ℕ) → List ℕ → List ℕ
@@ -185,7 +185,7 @@ abbrev pub BeginsFile : (List ℕ → FileState → Type 0) → Judging → List
 BeginsFile finds from file (Check false ends partial at_least any_copy) old new =
     IsOfFile finds from file (BeginsChecked from any_copy (scope_in partial) at_least old new)
 BeginsFile finds from file question old new =
-    IsOfFile finds from file (λ bytes. IsJudgedSo from (BeginsJudged (BeginsGoodFile question bytes) old new))
+    IsOfFile finds from file (λ bytes. IsJudgedSo (asks_copies question) from (BeginsJudged (BeginsGoodFile question bytes) old new))
 
 -- ---- sections that are read
 

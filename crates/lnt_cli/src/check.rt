@@ -87,7 +87,7 @@ fn judge_table<S: Source, F: Source>(
         &mut files.section,
         &strings,
         other,
-        &options_of(from),
+        &options_of(from, false),
         asked,
     ) {
         Ok(checked) => Ok(checked),

@@ -1,12 +1,13 @@
 //! Questions about a section that is judged, alone or with another file.
-ghost use Rattle.std.specs.Prelude.{◌≡◌, ◌-◌, ◌^◌, ◌<◌, ◌⊎◌, IfErr, IfOk, IsErrAnd, OnErr};
+ghost use Rattle.std.specs.Prelude.{◌≡◌, ◌-◌, ◌^◌, ◌<◌, ◌⊎◌, false, IfErr, IfOk, IsErrAnd, OnErr};
 ghost use Rattle.std.specs.Io.KnownBytes.{Keeps};
 ghost use Rattle.lnt_io.specs.Files.{IsTooLongFile, RefusesOnly};
 ghost use Rattle.lnt_io.specs.IoStops.{IsPrinting};
 ghost use Rattle.lnt_words.specs.declared.request.Question.TheVariants.{Md5};
 ghost use Rattle.lnt_answers.specs.Lines.{HasBegunLine, IsIndexGiven, IsReasonPrinted};
-ghost use Rattle.lnt_cli.specs.Answered.{AnswersFile, AnswersQuestion, IsJudgedSo, IsTrueOf, options_in};
+ghost use Rattle.lnt_cli.specs.Answered.{AnswersFile, AnswersQuestion, IsJudgedSo, IsTrueOf, options_by, options_in};
 ghost use Rattle.lnt_cli.specs.Questions.{AnswersGood, AnswersGoodFile, AnswersJudged, BeginsGood, BeginsGoodFile, BeginsJudged};
+ghost use Rattle.lnt_cli.specs.Questions.{asks_copies};
 ghost use Rattle.lnt_cli.specs.Stops.{AnswersUnreadable, BeginsFile, BeginsQuestion, IsCausedBy, IsCausedByEither, IsFileOf, IsFileOfBoth};
 ghost use Rattle.lnt_cli.specs.Stops.{IsLongWith, IsUnreadable, NamesOneOf, StopsIfRefused, TellsLong};
 
@@ -62,17 +63,17 @@ fn answer_opened<'t, S: Source, O: Files, W: Write>(
 ) -> Result<Answered<'t>, FileStop>
     requires { S.failures files.old.section < 2 ^ 64 - 1 }
     ensures named { IfErr result (NamesOneOf (IsFileOf from.now)) }
-    ensures answer { IfOk result (λ answered. IsJudgedSo from.now
+    ensures answer { IfOk result (λ answered. IsJudgedSo false from.now
         (AnswersJudged (AnswersGood (O.finds opener.old) question.now) (W.contents out.old) (W.contents out.new) answered.status)
         files.old.texts.line.items files.old.texts.general.items (S.remaining files.old.section)) }
     ensures stopped { OnErr result (Keeps (W.contents out.old) (W.contents out.new)
-        ⊎ IsJudgedSo from.now (BeginsJudged (BeginsGood (O.finds opener.old) question.now) (W.contents out.old) (W.contents out.new))
+        ⊎ IsJudgedSo false from.now (BeginsJudged (BeginsGood (O.finds opener.old) question.now) (W.contents out.old) (W.contents out.new))
         files.old.texts.line.items files.old.texts.general.items (S.remaining files.old.section)) }
     ensures refused { RefusesOnly (λ _. question.now ≡ Md5) (O.refused opener.old) (O.refused opener.new) }
     ensures cause { IfErr result (IsCausedBy ⟦<S as Source>⟧ files.old.section files.new.section from.now.section.now) }
 {
     let name = String::from_str(alloc, from.section)?;
-    match judge(alloc, &mut files.section, &files.texts, from, out)? {
+    match judge(alloc, &mut files.section, &files.texts, from, false, out)? {
         JudgedIndex::Good(index) => {
             let printed = print_answer(alloc, &index, question, opener, out);
             let status = of_file(name, printed)?;
@@ -146,16 +147,18 @@ fn answer_both<'f, S: Source, F: Source, W: Write>(
     requires section { S.failures files.old.section < 2 ^ 64 - 1 }
     requires file { F.failures other.old < 2 ^ 64 - 1 }
     ensures named { IfErr result (NamesOneOf (IsFileOfBoth from.now file.now)) }
-    ensures answer { IfOk result (λ answered. IsJudgedSo from.now
+    ensures answer { IfOk result (λ answered. IsJudgedSo (asks_copies question) from.now
         (AnswersJudged (AnswersGoodFile question (F.remaining other.old)) (W.contents out.old) (W.contents out.new) answered.status)
         files.old.texts.line.items files.old.texts.general.items (S.remaining files.old.section)) }
     ensures stopped { OnErr result (Keeps (W.contents out.old) (W.contents out.new)
-        ⊎ IsJudgedSo from.now (BeginsJudged (BeginsGoodFile question (F.remaining other.old)) (W.contents out.old) (W.contents out.new))
+        ⊎ IsJudgedSo (asks_copies question) from.now
+        (BeginsJudged (BeginsGoodFile question (F.remaining other.old)) (W.contents out.old) (W.contents out.new))
         files.old.texts.line.items files.old.texts.general.items (S.remaining files.old.section)) }
     ensures cause { IfErr result (IsCausedByEither ⟦<S as Source>⟧ files.old.section files.new.section from.now.section.now
         ⟦<F as Source>⟧ other.old other.new file.now) }
 {
-    match judge(alloc, &mut files.section, &files.texts, from, out)? {
+    let any_copy = counts_copies(question);
+    match judge(alloc, &mut files.section, &files.texts, from, any_copy, out)? {
         JudgedIndex::Good(index) => { answer_good_file(alloc, &index, file, question, other, out) }
         JudgedIndex::Bad(no) => Ok(Answered::no(Occasion::Bad(no))),
     }
@@ -190,11 +193,13 @@ fn answer_good_file<'f, F: Source, W: Write>(
             ends,
             partial,
             at_least,
+            any_copy,
             ..
         } => {
             let report = Report {
                 scope: Scope::of(partial),
                 ends,
+                any_copy,
                 at_least,
             };
             let printed = print_stretches(alloc, bytes, index, report, out);
@@ -204,37 +209,51 @@ fn answer_good_file<'f, F: Source, W: Write>(
     }
 }
 
-// The options with which the section is read and judged.
-pub(crate) fn options_of(from: &Judging<'_>) -> Options
-    ensures { result ≡ options_in from.now }
+// Whether the question is one of a table, and any copy counts.
+fn counts_copies(question: FileQuestion) -> bool
+    ensures { result ≡ asks_copies question }
+{
+    match question {
+        FileQuestion::Check { any_copy, .. } => any_copy,
+        FileQuestion::Lines(_) => false,
+    }
+}
+
+// The options with which the section is read and judged. If any copy counts, copies are skipped.
+pub(crate) fn options_of(from: &Judging<'_>, any_copy: bool) -> Options
+    ensures { result ≡ options_by any_copy (options_in from.now) }
 {
     Options {
         order: from.order,
         dead: from.dead,
-        skip_copies: from.skip_copies,
+        skip_copies: any_copy || from.skip_copies,
     }
 }
 
-// Judges the section, and if it isn't good, prints the line that says why.
+// Judges the section, and if it isn't good, prints the line that says why. If any copy counts, copies are skipped, and the index of a
+// good one has the extents of all.
 fn judge<'t, R: Source, W: Write>(
     alloc: Global,
     section: &mut R,
     texts: &'t Texts,
     from: &Judging<'_>,
+    any_copy: bool,
     out: &mut W,
 ) -> Result<JudgedIndex<'t>, FileStop>
     requires { R.failures section.old < 2 ^ 64 - 1 }
     ensures named { IfErr result (NamesOneOf (λ name. from.now.section.now ≡ name)) }
-    ensures judged { IfOk result (IsTrueOf from.now texts.now.line.items texts.now.general.items (R.remaining section.old)) }
+    ensures judged { IfOk result (IsTrueOf any_copy from.now texts.now.line.items texts.now.general.items (R.remaining section.old)) }
     ensures printed { IfOk result (λ judged. IsReasonPrinted judged (W.contents out.old) (W.contents out.new)) }
     ensures silent { IfOk result (λ judged. IsIndexGiven judged → out.new ≡ out.old) }
     ensures stopped { OnErr result (Keeps (W.contents out.old) (W.contents out.new)
-        ⊎ HasBegunLine (IsTrueOf from.now texts.now.line.items texts.now.general.items (R.remaining section.old))
+        ⊎ HasBegunLine (IsTrueOf any_copy from.now texts.now.line.items texts.now.general.items (R.remaining section.old))
         (W.contents out.old) (W.contents out.new)) }
     ensures cause { IfErr result (IsCausedBy ⟦<R as Source>⟧ section.old section.new from.now.section.now) }
 {
     let name = String::from_str(alloc, from.section)?;
-    let judged = judge_or_refuse(alloc, section, &texts.strings(), &options_of(from), out);
+    let strings = texts.strings();
+    let options = options_of(from, any_copy);
+    let judged = judge_or_refuse(alloc, section, &strings, &options, any_copy, out);
     of_file(name, judged)
 }
 

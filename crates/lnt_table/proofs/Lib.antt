@@ -2,7 +2,7 @@ pub mod JudgedLemmas
 pub mod CheckLemmas
 mod LawLemmas
 mod PathLemmas
-mod UnitPathLemmas
+pub mod UnitPathLemmas
 mod WriteLemmas
 pub mod OneVerdictLemmas
 pub mod OneWrittenLemmas

@@ -83,11 +83,3 @@ pub no_part : (rows : List Row) (partial : Bool) → IsFlagGiven rows (codes "pa
     → AreCheckWords rows all ends partial' at_least any_copy → ⊥
 no_part rows partial is_partial given unset all ends partial' at_least any_copy so =
     unset (one_flag rows (codes "partial") partial' partial so.is_partial is_partial (so.of_partial given))
-
--- and copies aren't asked of all positions
-pub no_copies : (rows : List Row) (all any_copy : Bool) → IsFlagGiven rows (codes "all") all → IsFlagGiven rows (codes "any-copy") any_copy
-    → IsTrue any_copy → IsTrue all → (all' ends partial : Bool) (at_least : ℕ) (any_copy' : Bool)
-    → AreCheckWords rows all' ends partial at_least any_copy' → ⊥
-no_copies rows all any_copy is_all is_any set both all' ends partial at_least any_copy' so =
-    so.copies_of_first (one_flag rows (codes "any-copy") any_copy any_copy' is_any so.is_any_copy set)
-    (one_flag rows (codes "all") all all' is_all so.is_all both)

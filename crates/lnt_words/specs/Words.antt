@@ -188,8 +188,7 @@ abbrev pub IsPercentageIn : Option Text → ℕ → Type 0
 IsPercentageIn None percentage = percentage ≡ 0
 IsPercentageIn (Some word) percentage = IsPercentage word percentage
 
--- How a table is checked: ends are those of all positions, of which copies aren't asked, and a percentage is that of the positions at which
--- the table answers.
+-- How a table is checked: ends are those of all positions, and a percentage is that of the positions at which the table answers.
 pub record AreCheckWords (rows : List Row) (all ends partial : Bool) (at_least : ℕ) (any_copy : Bool) : Type 0 where
   pub is_all : IsFlagGiven rows (codes "all") all
   pub has_ends : IsFlagGiven rows (codes "ends") ends
@@ -198,7 +197,6 @@ pub record AreCheckWords (rows : List Row) (all ends partial : Bool) (at_least :
   pub percentage : IsPercentageIn (first_of (codes "at-least") rows) at_least
   pub of_partial : IsSome (first_of (codes "at-least") rows) → IsTrue partial
   pub is_any_copy : IsFlagGiven rows (codes "any-copy") any_copy
-  pub copies_of_first : IsTrue any_copy → IsTrue all → ⊥
 
 -- The question about a good section that the subcommand of this name asks.
 abbrev pub IsQuestion : Text → List Row → Question → Type 0

@@ -105,7 +105,7 @@ pub(crate) const SUBCOMMANDS: [Subcommand; 11] = [
         "ends" => FlagWith("all"), "Prints the first position after each of these places too";
         "partial" => Flag, "Compares only where the table answers, and prints at how many of the section's addresses it does";
         "at-least" => ValuedWith("P", "partial"), "Prints no if these are fewer than P percent; P is 0 to 100";
-        "any-copy" => FlagWithout("all"), "Skips copies, and takes the answer of each of them as right too";
+        "any-copy" => Flag, "Skips copies, and takes the answer of each of them as right too";
     },
     subcommand! {
         "verify" => "Prints yes if a section is good, or else the first thing that is wrong with it", None, JUDGING;

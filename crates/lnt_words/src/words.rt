@@ -153,7 +153,7 @@ fn request_in<'a>(
     }
 }
 
-// What the words of `check` ask for. Ends are those of all positions, of which copies aren't asked, and a percentage is that of a part.
+// What the words of `check` ask for. Ends are those of all positions, and a percentage is that of a part.
 fn check_in<'a>(
     alloc: Global,
     words: &ArgMatches<'a>,
@@ -163,8 +163,7 @@ fn check_in<'a>(
 {
     let (all, ends) = (flag_in(words, "all"), flag_in(words, "ends"));
     let (partial, percentage) = (flag_in(words, "partial"), str_in(words, "at-least"));
-    let any_copy = flag_in(words, "any-copy");
-    if (ends && !all) || (percentage.is_some() && !partial) || (any_copy && all) {
+    if (ends && !all) || (percentage.is_some() && !partial) {
         return Err(refusal(alloc, given));
     }
     Ok(Request::JudgeWith {
@@ -175,7 +174,7 @@ fn check_in<'a>(
             ends,
             partial,
             at_least: percentage_of(alloc, words, percentage)?,
-            any_copy,
+            any_copy: flag_in(words, "any-copy"),
         },
     })
 }

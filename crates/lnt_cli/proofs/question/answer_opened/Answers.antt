@@ -1,4 +1,4 @@
-use Rattle.std.proofs.Common.{inr}
+use Rattle.std.proofs.Common.{false, inr}
 use Rattle.lnt_io.proofs.PrefixLaws.{so_stopped}
 use Rattle.lnt_lines.specs.declared.section.JudgedIndex.TheVariants.{Good}
 use Rattle.lnt_cli.specs.Questions.{BeginsGood}
@@ -7,7 +7,7 @@ use Rattle.lnt_cli.proofs.question.answer_opened.Goals as goal
 
 pub returns-in_err-index-clause-stopped : goal.returns-in_err-index-clause-stopped
 returns-in_err-index-clause-stopped g c =
-    begins_bad c.args.from.now (BeginsGood (g.O.Files.finds c.args.opener.now) c.args.question.now) _ _ _ _ _
+    begins_bad false c.args.from.now (BeginsGood (g.O.Files.finds c.args.opener.now) c.args.question.now) _ _ _ _ _
     c.from_residual-in_err-index.result c.in_err-index.ensures.stopped
 
 pub returns-in_err-status-in-Good-clause-stopped : goal.returns-in_err-status-in-Good-clause-stopped
