@@ -12,11 +12,10 @@ SHARE = 0.75  # of the addresses that differ
 class Causes:
     """What is known of a table and its differences, by which their cause is named."""
 
-    def __init__(self, name, tally, diagnosed, is_of_this_build=False, any_copy=False):
+    def __init__(self, name, tally, diagnosed, is_of_this_build=False):
         self.name, self.tally = shown(name), tally
         self.diagnosed = diagnosed  # what all differences have in common, and what to do, or None
         self.is_of_this_build = is_of_this_build  # by its identifier
-        self.any_copy = any_copy  # whether the answer of each copy was taken as right
         self.answered = tally.count(WRONG) + tally.count(EXTRA)
 
     def is_most(self, size):
@@ -59,7 +58,7 @@ class Causes:
         if not self.is_most(self.tally.kinds[COPY]):
             return None
         return ("the linker kept one of several copies of a function, and %s answers by another one than the first" % self.name,
-                "" if self.any_copy else "check it with --any-copy")
+                "check it with --any-copy")
 
     def first(self):
         if not self.is_most(self.tally.kinds[FIRST]):

@@ -225,10 +225,10 @@ class Question:
         return stored(self.files[LINE])
 
     def run(self, word, words, others=(), taken=None, is_fed=False):
-        """A run of a word on the section, with the options that it takes, these words, and others behind the section. If any copy counts,
-        that is for the first place where a table differs; all others skip copies alone."""
+        """A run of a word on the section, with the options that it takes, these words, and others behind the section. That any copy counts is
+        a check's; others skip copies."""
         taken = self.taken if taken is None else taken
-        if word != "check" or "--all" in words:
+        if word != "check":
             words = ["--skip-copies" if each == "--any-copy" else each for each in words]
         options = [part for option, value in self.options.items() if option in taken for part in (option, *value)]
         return Run([word, *options, *words, self.name_of(LINE), *others], is_fed=is_fed)

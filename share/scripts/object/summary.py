@@ -29,7 +29,7 @@ class Findings:
         told = None
         if self.tally.count(WRONG) + self.tally.count(EXTRA):
             told = diagnosis.told_of(comparison, question, words)
-        causes = Causes(self.table_name, self.tally, told, comparison.is_of_this_build, "--any-copy" in words)
+        causes = Causes(self.table_name, self.tally, told, comparison.is_of_this_build)
         self.cause, self.remedy = causes.found()
 
     def counts(self):

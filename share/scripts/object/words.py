@@ -55,7 +55,7 @@ ELSEWHERE = {
 
 
 APART = "symbols"  # the word of linetab that isn't about a program
-EXCLUDING = [("--older", "--no-older"), ("--whole", "--partial"), ("--all", "--any-copy")]
+EXCLUDING = [("--older", "--no-older"), ("--whole", "--partial")]
 
 
 class Usage(Exception):
