@@ -57,8 +57,14 @@ table spread $'0x1000,0x1006,/s/a.c,5\n0x2000,0x2004,/s/a.c,8\n0x2004,0x2006,/s/
 says 'each place at which no copy answers so' 1 $'no 40 differs at 0x1004,0 up to 0x1006,0 table "/s/a.c",5 section "/s/a.c",4
 no 40 differs at 0x2000,0 up to 0x2004,0 table "/s/a.c",8 section "/s/a.c",9\n' spread --any-copy --all --ends
 table around $'0x0ff0,0x1006,/s/a.c,7\n'
-says 'both ends of an answer of which a copy has the middle' 1 $'no 40 differs at 0xff0,0 table "/s/a.c",7 section none
+says 'two places before an answer that a copy has' 1 $'no 40 differs at 0xff0,0 table "/s/a.c",7 section none
 no 40 differs at 0x1000,0 table "/s/a.c",7 section "/s/a.c",3\n' around --any-copy --all --partial
+(unit 0010000000000000 1401 0206 # line 3, and lines 5, 7 and 5
+bytes "4c000000 $start $header 000902 0010000000000000 16 0202 0302 01 0202 037e 01 0202 000101") >"$work/thirds"
+table sevens $'0x1000,0x1006,/s/a.c,7\n'
+expect 'both ends of an answer of which a copy has the middle' 1 $'no 40 differs at 0x1000,0 up to 0x1002,0 table "/s/a.c",7 section "/s/a.c",3
+no 40 differs at 0x1004,0 up to 0x1006,0 table "/s/a.c",7 section "/s/a.c",3\n' '' \
+  "$program" check "$work/thirds" "$work/sevens" --any-copy --all --ends
 says 'what is missing too' 1 $'no 40 differs at 0x1004,0 table none section "/s/a.c",4
 no 40 differs at 0x2000,0 table none section "/s/a.c",9
 no 40 differs at 0x2004,0 table none section "/s/a.c",10\n' gap --any-copy --all

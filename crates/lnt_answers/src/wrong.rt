@@ -73,7 +73,7 @@ fn print_numbers<W: Write>(
                 version,
                 differences,
             };
-            let wrong = WrongStretches::of(kept, index, report.scope);
+            let wrong = WrongStretches::of(alloc, kept, index, report.scope);
             let coverage = print_given(alloc, wrong, Scope::All, report.ends, out)?;
             let status = print_end(alloc, report, coverage, out)?;
             Ok(Stretches::Printed(status))
@@ -109,7 +109,7 @@ fn print_paths<W: Write>(
                 version,
                 differences: differences_by_path(index, &spans, version),
             };
-            let wrong = WrongStretches::of(kept, index, report.scope);
+            let wrong = WrongStretches::of(alloc, kept, index, report.scope);
             let printed = print_given(alloc, wrong, Scope::All, report.ends, out);
             drop(spans);
             let coverage = printed?;

@@ -16,12 +16,14 @@ use Rattle.lnt_sequences.specs.Sequences.{line_answer, Selection}
 use Rattle.lnt_sequences.proofs.AnyLemmas.{any_answers, any_as_kept}
 use Rattle.lnt_table.specs.declared.asked.Asked.{Asked}
 use Rattle.lnt_table.specs.declared.asked.Asked.TheVariants.{Right, Wrong}
+use Rattle.lnt_table.specs.declared.copies.Copies.{Copies}
 use Rattle.lnt_table.specs.declared.within.Scope.{Scope}
 use Rattle.lnt_table.specs.declared.within.Scope.TheVariants.{All, Answered}
 use Rattle.lnt_table.specs.declared.wrong.Piece.{Piece}
 use Rattle.lnt_table.specs.AnyCopy.{AreAllWrong, AreFirstWrong, BeginsWrong, EndsWrong, IsFirstWrong, IsInWrong, IsRightIn, IsRightOrIn}
 use Rattle.lnt_table.specs.AnyCopy.{IsWrongWith, StayWrong}
-use Rattle.lnt_table.specs.Asked.{FindsLeastNot, FindsPiece, IsAsked, IsLeastNot, IsPassed, IsPiece, IsSoFrom, unanswered_in}
+use Rattle.lnt_table.specs.Asked.{AreReady, FindsLeastNot, FindsPiece, FindsTurn, IsAsked, IsLeastNot, IsPassed}
+use Rattle.lnt_table.specs.Asked.{IsPiece, IsSoFrom, unanswered_in}
 use Rattle.lnt_table.specs.WrongStretches.{AreWrongBelow, IsRest, rank}
 
 -- ---- positions as numbers
@@ -414,40 +416,47 @@ pub none_if : {X : Type 0} (answer : Option X) → false ≡ is_some answer → 
 none_if None e = refl
 none_if (Some told) e = cc e
 
-module _ {X : Type 0} (scope : Scope) (said : Position → Option X → Type 0) (g : Position → Option X) (low high : Position) where
-  abbrev Finds : Bool → Option X → Position → Option Position → Type 0
-  Finds is_said answer at found =
-      IfSome answer (λ told. FindsLeastNot (λ p. IsPassed is_said (said p (Some told))) at high found)
+-- without an answer, copies are as ready from one position on as from another
+pub unanswered_ready : {X : Type 0} (tell : Answer → X) (selection : Selection) (copies : Copies) (told : Option X) → told ≡ None
+    → (at to whole : Position) → AreReady tell selection copies told at whole → AreReady tell selection copies told to whole
+unanswered_ready tell selection copies None none at to whole ready = ready
+unanswered_ready tell selection copies (Some told) none at to whole ready = cc none
+
+-- Copies were ready before the first turn was looked for, then before the second, and then after it.
+module _ {X : Type 0} (scope : Scope) (said : Position → Option X → Type 0) (g : Position → Option X) (low high : Position)
+    (WereReady AreThenReady AreNowReady : Option X → Position → Position → Type 0) where
+  abbrev Finds : Bool → (Option X → Position → Position → Type 0) → (Option X → Position → Position → Type 0) → Option X → Position
+      → Option Position → Type 0
+  Finds is_said Before After answer at found = IfSome answer (λ told. FindsTurn is_said said Before After (Some told) at high found)
 
   pub no_piece : (answer : Option X) → true ≡ is_some answer → ((p : Position) → IsAtMost low p → IsBelow p high → g p ≡ answer)
-      → Finds false answer low None → FindsPiece (IsRightIn scope said g) low high None
-  no_piece None some same h = cc some
-  no_piece (Some told) some same h = right_all scope said g low high told same h
-
-  piece_to : (answer : Option X) → true ≡ is_some answer → ((p : Position) → IsAtMost low p → IsBelow p high → g p ≡ answer)
-      → (at end : Position) → Finds false answer low (Some at) → Finds true answer at (Some end)
-      → FindsPiece (IsRightIn scope said g) low high (Some (record { low = at; high = end }))
-  piece_to None some same at end h k = cc some
-  piece_to (Some told) some same at end h k = wrong_to scope said g low high told same at h end k
-
-  piece_all : (answer : Option X) → true ≡ is_some answer → ((p : Position) → IsAtMost low p → IsBelow p high → g p ≡ answer)
-      → (at : Position) → Finds false answer low (Some at) → Finds true answer at None
-      → FindsPiece (IsRightIn scope said g) low high (Some (record { low = at; high = high }))
-  piece_all None some same at h k = cc some
-  piece_all (Some told) some same at h k = wrong_all scope said g low high told same at h k
+      → WereReady answer low high → Finds false WereReady AreThenReady answer low None
+      → FindsPiece (IsRightIn scope said g) low high None × AreThenReady answer high high
+  no_piece None some same ready h = cc some
+  no_piece (Some told) some same ready h = let turn = h ready in (right_all scope said g low high told same turn.0, turn.1)
 
   -- by where they end
   pub piece_at : (answer : Option X) → true ≡ is_some answer → ((p : Position) → IsAtMost low p → IsBelow p high → g p ≡ answer)
-      → (at : Position) → Finds false answer low (Some at) → (found : Option Position) → Finds true answer at found → (end : Position)
+      → WereReady answer low high → (at : Position) → Finds false WereReady AreThenReady answer low (Some at) → (found : Option Position)
+      → Finds true AreThenReady AreNowReady answer at found → (end : Position)
       → MatchOption found (end ≡ high) (λ next. IsBelow at next → end ≡ next)
-      → FindsPiece (IsRightIn scope said g) low high (Some (record { low = at; high = end }))
-  piece_at answer some same at h None k end is_end =
-      subst (λ (q : Position). FindsPiece (IsRightIn scope said g) low high (Some (record { low = at; high = q }))) (sym is_end)
-      (piece_all answer some same at h k)
-  piece_at answer some same at h (Some next) k end is_end =
-      let piece = piece_to answer some same at next h k in
-      subst (λ (q : Position). FindsPiece (IsRightIn scope said g) low high (Some (record { low = at; high = q })))
-      (sym (is_end piece.past)) piece
+      → FindsPiece (IsRightIn scope said g) low high (Some (record { low = at; high = end })) × AreNowReady answer end high
+  piece_at None some same ready at h found k end is_end = cc some
+  piece_at (Some told) some same ready at h None k end is_end =
+      let one = h ready in
+      let other = k one.1 in (
+        subst (λ (q : Position). FindsPiece (IsRightIn scope said g) low high (Some (record { low = at; high = q }))) (sym is_end)
+            (wrong_all scope said g low high told same at one.0 other.0),
+        subst (λ (q : Position). AreNowReady (Some told) q high) (sym is_end) other.1,
+      )
+  piece_at (Some told) some same ready at h (Some next) k end is_end =
+      let one = h ready in
+      let other = k one.1 in
+      let piece = wrong_to scope said g low high told same at one.0 next other.0 in (
+        subst (λ (q : Position). FindsPiece (IsRightIn scope said g) low high (Some (record { low = at; high = q })))
+            (sym (is_end piece.past)) piece,
+        subst (λ (q : Position). AreNowReady (Some told) q high) (sym (is_end piece.past)) other.1,
+      )
 
 -- ---- differences of any kind
 

@@ -1,11 +1,12 @@
 -- What the live sequences that hold a position say, by the spans of each.
 use Rattle.std.proofs.Common.{◌≡◌, ◌∙◌, ℕ, zero, suc, ◌+◌, ◌-◌, ◌<◌, ◌≤◌, Bool, true}
 use Rattle.std.proofs.Common.{false, List, [], ◌∷◌, ◌++◌, Option, Some, None, ap, sym, refl, subst}
-use Rattle.std.proofs.Common.{arith, length, get_or, option_map, ◌⊎◌, inl, inr}
+use Rattle.std.proofs.Common.{arith, length, get_or, take, drop, option_map, ◌⊎◌, inl, inr}
 use Rattle.std.specs.List.{Contains}
 use Rattle.std.proofs.lemmas.Bool.{cases_lt}
 use Rattle.std.proofs.lemmas.List.{get_or_default, get_or_push, length-append}
 use Rattle.std.proofs.Math.ListN.{get_or-append}
+use Rattle.std.proofs.Math.Seq.{take-append_seam}
 use Rattle.std.proofs.lemmas.Option.{same_Some}
 use Rattle.lnt_machine.specs.declared.row.Row.{Row}
 use Rattle.lnt_spans.specs.declared.answer.Answer.{Answer}
@@ -19,12 +20,14 @@ use Rattle.lnt_sequences.specs.Copies.{AreExtentsOf, ExtentsOfSequences, IsAnyAn
 use Rattle.lnt_sequences.specs.Sequences.{answer_in, answer_of, holds, Holds, live_sequences, Placed, row_at, Selection}
 use Rattle.lnt_sequences.proofs.ExtentLemmas.{holds_from_test, test_from_holds}
 use Rattle.lnt_sequences.proofs.OverlapLemmas.{sorted_far}
+use Rattle.lnt_lines.specs.Indexed.{IsIndexOf}
 use Rattle.lnt_lines.specs.Cursors.{AreToCome, Cursor, GivesSequence}
 use Rattle.lnt_table.specs.declared.said.SequenceSpans.{SequenceSpans}
-use Rattle.lnt_table.specs.Asked.{AreSequencesFrom, IsSoFrom}
-use Rattle.lnt_table.specs.Groups.{BeginFrom, BeginInTurn, HaveEnded, IsGroup}
-use Rattle.lnt_table.specs.Said.{AnswersFrom, NoneSays, OneSays, Says}
-use Rattle.lnt_table.proofs.SaidLemmas.{none_says}
+use Rattle.lnt_table.specs.declared.copies.Copies.{Copies}
+use Rattle.lnt_table.specs.Asked.{AreReady, AreSequencesFrom, AreWhole, IsSoFrom, IsTurn, IsWholeSource}
+use Rattle.lnt_table.specs.Groups.{BeginFrom, BeginInTurn, HaveEnded}
+use Rattle.lnt_table.specs.Said.{AnswersFrom, NoneSays, OneSays, Says, SaysFrom, StillSay, TurnsAt}
+use Rattle.lnt_table.proofs.SaidLemmas.{from_later, none_says}
 
 -- a list with an element has a first one
 some_of : {A : Type 0} (list : List A) (k : ℕ) → k < length list → A
@@ -84,28 +87,26 @@ module _ {X : Type 0} (tell : Answer → X) (told : X) (selection : Selection) w
 
   -- ---- the sequences of a group
 
-  module _ (law : ExtentsOfSequences) (extents : List Extent) (first begun : ℕ) (at : Position)
+  module _ (law : ExtentsOfSequences) (extents : List Extent) (held begun : ℕ) (at whole : Position)
       (sequences : List (SequenceSpans Cursor)) (are : AreExtentsOf (live_sequences selection.dead selection.units) extents)
-      (group : IsGroup extents first begun at) (count : first + length sequences ≡ begun)
-      (from : AreSequencesFrom selection extents first sequences) where
+      (within : begun ≤ length extents) (ended : HaveEnded extents held at) (count : held + length sequences ≡ begun)
+      (ready : AreSequencesFrom (λ sequence. SaysFrom AreToCome tell told sequence at whole) selection extents held sequences) where
     -- an extent of the group is that of a live sequence
-    pub one_said_any : (p : Position) → OneSays AreToCome tell told sequences at p → IsAnyAnswer tell selection p (Some told)
+    one_said_any : (p : Position) → OneSays AreToCome tell told sequences at p → IsAnyAnswer tell selection p (Some told)
     one_said_any p says =
         let k = says.0 in
         let d : SequenceSpans Cursor = some_of sequences k says.1 in
         let e : Extent = record { low = at; high = at; id = record { unit = 0; index = 0 } } in
-        let extent : Extent = get_or extents (first + k) e in
-        let inside : first + k < length extents = omega (arith, says.1, count, group.within) in
+        let extent : Extent = get_or extents (held + k) e in
+        let inside : held + k < length extents = omega (arith, says.1, count, within) in
         let one = law.one (live_sequences selection.dead selection.units) extents extent are
-        (first + k, inside, get_or_default extents (first + k) extent e inside) in
+        (held + k, inside, get_or_default extents (held + k) extent e inside) in
         said_alone one.0 p one.1.contained
-        (says.2 d (answer_in (one.0 ∷ [])) (from k d e says.1 one.0 one.1.contained one.1.id_is at))
+        (says.2 d whole (answer_in (one.0 ∷ [])) (ready k d e says.1 one.0 one.1.contained one.1.id_is))
 
     -- each live sequence that holds a position of the group is in it
-    pub none_said_any : (end p : Position) → (BeginInTurn extents → BeginFrom extents begun end) → IsAtMost at p → IsBelow p end
-        → ((k : ℕ) (d : SequenceSpans Cursor) (answers : Position → Option Answer) → k < length sequences
-        → AnswersFrom AreToCome (get_or sequences k d) at answers → Says tell told answers p → ⊥)
-        → IsAnyAnswer tell selection p (Some told) → ⊥
+    none_said_any : (end p : Position) → (BeginInTurn extents → BeginFrom extents begun end) → IsAtMost at p → IsBelow p end
+        → NoneSays AreToCome tell told sequences at p → IsAnyAnswer tell selection p (Some told) → ⊥
     none_said_any end p later le below none (answer, is, same) =
         let found = law.found (live_sequences selection.dead selection.units) extents is.placed p are is.contained is.holds in
         let extent : Extent = found.0 in
@@ -113,24 +114,101 @@ module _ {X : Type 0} (tell : Answer → X) (told : X) (selection : Selection) w
         let here : get_or extents n extent ≡ extent = found.1.2 in
         let in_extent = found.2.into p is.holds in
         let turn : BeginInTurn extents = λ i j d le lt. (sorted_far extents are.sorted i j d le lt).low in
-        let past : first ≤ n = elim (cases_lt n first) [
+        let past : held ≤ n = elim (cases_lt n held) [
           | inr past ↦ past
           | inl early ↦ absurd (not_both in_extent.below
-              (at_most_trans (subst (λ (e : Extent). IsAtMost e.high at) here (group.ended n extent early)) le))
+              (at_most_trans (subst (λ (e : Extent). IsAtMost e.high at) here (ended n extent early)) le))
         ] in
         let begun_is : n < begun = elim (cases_lt n begun) [
           | inl early ↦ early
           | inr late ↦ absurd (not_both below
               (at_most_trans (subst (λ (e : Extent). IsAtMost end e.low) here (later turn n extent late found.1.1)) in_extent.from))
         ] in
-        let k : ℕ = n - first in
-        let sum : first + k ≡ n = omega (arith, past) in
-        let within : k < length sequences = omega (arith, past, begun_is, count) in
-        let d : SequenceSpans Cursor = some_of sequences k within in
-        none k d (answer_in (is.placed ∷ [])) within
-        (from k d extent within is.placed is.contained
-        (found.2.id_is ∙ ap (λ (e : Extent). e.id) (sym here) ∙ ap (λ (i : ℕ). (get_or extents i extent).id) (sym sum)) at)
+        let k : ℕ = n - held in
+        let sum : held + k ≡ n = omega (arith, past) in
+        let inside : k < length sequences = omega (arith, past, begun_is, count) in
+        let d : SequenceSpans Cursor = some_of sequences k inside in
+        none k d whole (answer_in (is.placed ∷ [])) inside
+        (ready k d extent inside is.placed is.contained
+        (found.2.id_is ∙ ap (λ (e : Extent). e.id) (sym here) ∙ ap (λ (i : ℕ). (get_or extents i extent).id) (sym sum)))
         (alone_said p answer is same)
+
+    -- so a turn among them is one among all live sequences
+    pub turn_of_any : (is_said : Bool) (end to : Position) → (BeginInTurn extents → BeginFrom extents begun end) → IsAtMost at to
+        → IsAtMost to end
+        → TurnsAt is_said (OneSays AreToCome tell told sequences at) (NoneSays AreToCome tell told sequences at) at end to
+        → IsTurn is_said (IsAnyAnswer tell selection) (Some told) at end to
+    turn_of_any false end to later past upto turns = record {
+      passed = λ p le lt. one_said_any p (turns.0 p le lt);
+      found = λ below. none_said_any end to later past below (turns.1 below);
+    }
+    turn_of_any true end to later past upto turns = record {
+      passed = λ p le lt. none_said_any end p later le (below_at_most lt upto) (turns.0 p le lt);
+      found = λ below unsaid. unsaid (one_said_any to (turns.1 below));
+    }
+
+-- ---- what the cursors are ready for
+
+-- what was lent and came back as long is what is held
+pub refilled : {X : Type 0} (n : ℕ) (old new : List X) → length new ≡ n → take n (new ++ drop (length new) old) ≡ new
+refilled n old new same =
+    subst (λ (m : ℕ). take m (new ++ drop (length new) old) ≡ new) same (take-append_seam new (drop (length new) old))
+
+pub still_ready : {X : Type 0} (tell : Answer → X) (told : X) (selection : Selection) (extents : List Extent) (held : ℕ)
+    (old new : List (SequenceSpans Cursor)) (at to end whole : Position) → StillSay AreToCome tell told old new at to end
+    → IsAtMost end whole
+    → AreSequencesFrom (λ sequence. SaysFrom AreToCome tell told sequence at whole) selection extents held old
+    → AreSequencesFrom (λ sequence. SaysFrom AreToCome tell told sequence to whole) selection extents held new
+still_ready tell told selection extents held old new at to end whole still upto ready k d e lt placed contained same =
+    let inside : k < length old = omega (arith, lt, still.count) in
+    still.each k d whole (answer_in (placed ∷ [])) inside upto (ready k d e inside placed contained same)
+
+-- from a position on each gives the answers of its sequence
+pub whole_from_ready : {X : Type 0} (tell : Answer → X) (selection : Selection) (copies : Copies) (told : Option X) (at whole : Position)
+    → AreReady tell selection copies told at whole → AreWhole selection copies whole
+whole_from_ready tell selection copies None at whole ready = ready
+whole_from_ready tell selection copies (Some told) at whole ready = λ k d e lt placed contained same.
+    (let one = ready k d e lt placed contained same in
+    record { list = one.list; left = one.left; order = one.order; same = one.same })
+
+pub whole_on : (selection : Selection) (copies : Copies) (at whole : Position) → AreWhole selection copies at → IsAtMost at whole
+    → AreWhole selection copies whole
+whole_on selection copies at whole are le = λ k d e lt placed contained same.
+    from_later AreToCome _ at (answer_in (placed ∷ [])) (are k d e lt placed contained same) whole le
+
+-- and then they are ready for any answer of the table
+pub ready_from_whole : {X : Type 0} (tell : Answer → X) (selection : Selection) (copies : Copies) (told : Option X) (at whole : Position)
+    → AreWhole selection copies at → IsAtMost at whole → AreReady tell selection copies told at whole
+ready_from_whole tell selection copies None at whole are le = whole_on selection copies at whole are le
+ready_from_whole tell selection copies (Some told) at whole are le = λ k d e lt placed contained same.
+    (let one = are k d e lt placed contained same in
+    record {
+      list = one.list;
+      left = one.left;
+      order = one.order;
+      says = λ p past says. sym (ap (option_map tell) (one.same p past)) ∙ says;
+      said = λ p past says. ap (option_map tell) (one.same p past) ∙ says;
+      same = λ p past. one.same p (at_most_trans le past);
+    })
+
+-- new cursors are too
+pub ready_if_new : {X : Type 0} (tell : Answer → X) (selection : Selection) (copies : Copies) (told : Option X) (at whole : Position)
+    → AreSequencesFrom IsWholeSource selection copies.group.extents.now copies.held copies.sequences.items → IsAtMost at whole
+    → AreReady tell selection copies told at whole
+ready_if_new tell selection copies told at whole new le =
+    ready_from_whole tell selection copies told at whole (λ k d e lt placed contained same. new k d e lt placed contained same at) le
+
+-- those that are kept are as ready as they were
+pub ready_again : {X : Type 0} (tell : Answer → X) (told : X) (selection : Selection) (old new : Copies) (at whole : Position)
+    → IsAtMost at whole → new.index ≡ old.index → new.group.extents ≡ old.group.extents
+    → (((new.held ≡ old.held) × (new.sequences ≡ old.sequences)) ⊎ ((selection : Selection) → IsIndexOf selection new.index.now
+    → AreSequencesFrom IsWholeSource selection new.group.extents.now new.held new.sequences.items))
+    → IsIndexOf selection old.index.now → AreReady tell selection old (Some told) at whole
+    → AreReady tell selection new (Some told) at whole
+ready_again tell told selection old new at whole le index extents (inl kept) is ready =
+    rw (extents, kept.0, kept.1) ready
+ready_again tell told selection old new at whole le index extents (inr begun) is ready =
+    ready_if_new tell selection new (Some told) at whole (begun selection (rw index is)) le
 
 -- ---- from a position up to another
 
@@ -140,10 +218,10 @@ so_on IsSo low at to one other p le lt = elim (order_cases p at) [ inl early ↦
 -- ---- one sequence more
 
 pub one_pushed : (selection : Selection) (extents : List Extent) (first place : ℕ) (sequences : List (SequenceSpans Cursor))
-    (new : SequenceSpans Cursor) → AreSequencesFrom selection extents first sequences → first + length sequences ≡ place
+    (new : SequenceSpans Cursor) → AreSequencesFrom IsWholeSource selection extents first sequences → first + length sequences ≡ place
     → ((e : Extent) (placed : Placed) → Contains (live_sequences selection.dead selection.units) placed
     → placed.id ≡ (get_or extents place e).id → (at : Position) → AnswersFrom AreToCome new at (answer_in (placed ∷ [])))
-    → AreSequencesFrom selection extents first (sequences ++ new ∷ [])
+    → AreSequencesFrom IsWholeSource selection extents first (sequences ++ new ∷ [])
 one_pushed selection extents first place sequences new from sum one k d e lt placed contained same at =
     elim (cases_lt k (length sequences)) [
       | inl early ↦ subst (λ (s : SequenceSpans Cursor). AnswersFrom AreToCome s at (answer_in (placed ∷ [])))

@@ -1,5 +1,5 @@
 -- How far the stretches of wrong positions were given: what contracts see of `WrongStretches`.
-use Rattle.std.specs.Prelude.{◌≡◌, ◌⊎◌, ℕ, ◌+◌, ◌-◌, ◌*◌, ◌^◌, List, map, Option, IsSomeAnd, option_map}
+use Rattle.std.specs.Prelude.{◌≡◌, ◌⊎◌, ℕ, ◌+◌, ◌-◌, ◌*◌, ◌^◌, List, map, Option, Some, None, IsSomeAnd, option_map}
 use Rattle.std.specs.List.{AllByRecursion}
 use Rattle.lnt_spans.specs.declared.answer.Answer.{Answer}
 use Rattle.lnt_spans.specs.declared.position.Position.{Position}
@@ -11,7 +11,7 @@ use Rattle.lnt_lines.specs.Indexed.{IsIndexOf}
 use Rattle.lnt_table.specs.declared.within.Scope.{Scope}
 use Rattle.lnt_table.specs.declared.wrong.WrongStretches.{WrongStretches}
 use Rattle.lnt_table.specs.AnyCopy.{AreFirstWrong, IsRightIn, IsRightOrIn}
-use Rattle.lnt_table.specs.Asked.{AreCopies}
+use Rattle.lnt_table.specs.Asked.{AreCopies, AreReady}
 
 --     tell, value_of, has_given    of `KeptStretches`
 
@@ -43,6 +43,11 @@ pub record AreWrongBelow {X : Type 0} (scope : Scope) (said : Position → Optio
   pub below : AllByRecursion (λ stretch. IsBelow stretch.position from) stretches
   pub held : AllByRecursion (λ stretch. IsInOne by_section by_table given stretch.position) stretches
 
+-- what the table answers in the stretch at hand
+abbrev pub told_at : {D X : Type 0} → (D → Stretch X) → Option D → Option X
+told_at value_of None = None
+told_at value_of (Some difference) = (value_of difference).by_table
+
 -- These stretches were given of the section with these units and of the table.
 pub record HasFoundWrong {K D X : Type 0} (tell : K → Answer → X) (value_of : D → Stretch X)
     (has_given : K → (Position → Option X) → (Position → Option X) → List D → Type 0) (wrong : WrongStretches K D)
@@ -54,6 +59,7 @@ pub record HasFoundWrong {K D X : Type 0} (tell : K → Answer → X) (value_of 
   pub so : has_given wrong.kept by_section by_table given
   pub are : AreWrongBelow wrong.scope (IsAnyAnswer (tell wrong.kept) selection) by_section by_table (map value_of given)
       (option_map value_of wrong.hand) wrong.from wrong.end (map value_of stretches)
+  pub ready : AreReady (tell wrong.kept) selection wrong.copies (told_at value_of wrong.hand) wrong.from wrong.end
 
 -- a position as a number, in the order of positions
 abbrev pub rank : Position → ℕ

@@ -39,8 +39,7 @@ use std::alloc::{AllocError, Global};
 /// that of the kept sequence. How much is answered counts as in `check_within`.
 ///
 /// It holds the bytes of the table and its spans, and 48 bytes for each live sequence; and at a stretch of positions at which the kept
-/// sequences answer otherwise, a cursor for each sequence that holds them. It decodes each of these once for each such stretch, and once
-/// more for the one at which the table is wrong.
+/// sequences answer otherwise, a cursor for each sequence that holds them. It decodes each of these once.
 ///
 /// Stops as `check` does.
 pub fn check_any_copy<R: Source, T: Source>(

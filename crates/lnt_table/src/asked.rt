@@ -34,7 +34,7 @@ pub(crate) fn ask<D: Drop, K: KeptStretches<D> + Drop>(
         → K.has_given kept by_section by_table []
         → IsAsked scope K.value_of (IsAnyAnswer (K.tell kept) selection) by_section by_table asked)) }
 {
-    let mut wrong = WrongStretches::of(kept, index, scope);
+    let mut wrong = WrongStretches::of(alloc, kept, index, scope);
     match wrong.next_wrong(alloc)? {
         Some(ended) => Ok(Asked::Wrong(ended.difference)),
         None => Ok(Asked::Right(wrong.coverage())),

@@ -39,7 +39,7 @@ pub trait KeptStretches<D> {
     ghost use Rattle.lnt_spans.specs.Positions.{IsAtMost, IsBelow};
     ghost use Rattle.lnt_sequences.specs.Copies.{IsAnyAnswer};
     ghost use Rattle.lnt_table.specs.declared.within.Coverage.{Coverage as SpecCoverage};
-    ghost use Rattle.lnt_table.specs.Asked.{AreCopies, FindsLeastNot, IsPassed, OfLive};
+    ghost use Rattle.lnt_table.specs.Asked.{AreCopies, AreReady, FindsTurn, OfLive};
 
     ghost Told: { Type 0 };
 
@@ -76,7 +76,7 @@ pub trait KeptStretches<D> {
         ensures { result ≡ is_some (value_of difference.now).by_table };
 
     /// The least position from `low` up to `high` at which one of the live sequences says what the table does in this stretch, if that is
-    /// looked for; and else the least at which none of them does.
+    /// looked for; and else the least at which none of them does. The next one of the stretch is looked for from there on.
     fn first_turn(
         &self,
         alloc: Global,
@@ -92,7 +92,8 @@ pub trait KeptStretches<D> {
         ensures index { copies.new.index ≡ copies.old.index }
         ensures range { IfOk result (λ found. IfSome found (λ at. IsAtMost low at × IsBelow at high)) }
         ensures found { IfOk result (λ found. OfLive copies.old.index.now (λ selection. IfSome (value_of difference.now).by_table (λ told.
-            FindsLeastNot (λ p. IsPassed is_said (IsAnyAnswer (tell self.now) selection p (Some told))) low high found))) };
+            FindsTurn is_said (IsAnyAnswer (tell self.now) selection) (AreReady (tell self.now) selection copies.old)
+            (AreReady (tell self.now) selection copies.new) (Some told) low high found))) };
 
     /// The same answers at another position.
     fn moved(&self, alloc: Global, difference: &D, position: Position) -> Result<D, AllocError>

@@ -1,11 +1,12 @@
 //! Asks several sequences, from a position on, for one answer.
-ghost use Rattle.std.specs.Prelude.{◌≡◌, ◌⊎◌, ◌<◌, ◌≤◌, List, Option, Some, IfOk, IfSome, IsSome};
+ghost use Rattle.std.specs.Prelude.{◌≡◌, ◌⊎◌, ◌<◌, ◌≤◌, List, Option, IfOk, IfSome, IsSome};
 ghost use Rattle.lnt_spans.specs.declared.answer.Answer as spec_answer;
 ghost use Rattle.lnt_spans.specs.declared.position.Position as spec_position;
 ghost use Rattle.lnt_spans.specs.declared.span.Span as spec_span;
 ghost use Rattle.lnt_spans.specs.Positions.{IsAtMost, IsBelow};
+ghost use Rattle.lnt_spans.specs.Remaining.{GivesFirstSpan};
 ghost use Rattle.lnt_spans.specs.Spans.{AreInOrder, span_answer};
-ghost use Rattle.lnt_table.specs.Said.{AnswersFrom, NoneSays, OneSays, Says, StillAnswer, all_left, left_of};
+ghost use Rattle.lnt_table.specs.Said.{AnswersFrom, NoneSays, OneSays, Says, SaysFrom, StillSay, TurnsAt, all_left, left_of};
 
 use lnt_spans::{Answer, Position, Span, SpanSource};
 use std::alloc::AllocError;
@@ -48,19 +49,29 @@ impl<S: SpanSource> SequenceSpans<S> {
         SequenceSpans { next, spans }
     }
 
-    // Up to which position, from `at` on, one of the spans says this: the end of the span that holds `at`, or `at` itself. That span and
-    // those before it are passed.
-    fn said_to<A: TableAnswer>(&mut self, answer: &A, at: Position) -> Result<Position, AllocError>
+    // Up to which position, from `at` up to `end`, one of the spans says this: the end of the span that holds `at`, or `at` itself. The
+    // spans below that position are passed.
+    fn said_to<A: TableAnswer>(
+        &mut self,
+        answer: &A,
+        at: Position,
+        end: Position,
+    ) -> Result<Position, AllocError>
+        requires { IsAtMost at end }
         ensures past { IfOk result (λ to. IsAtMost at to) }
-        ensures kept { IfOk result (λ to. (answers : spec_position.Position → Option spec_answer.Answer)
-            → AnswersFrom S.to_come self.old at answers → AnswersFrom S.to_come self.new to answers) }
-        ensures said { IfOk result (λ to. (answers : spec_position.Position → Option spec_answer.Answer)
-            → AnswersFrom S.to_come self.old at answers → (p : spec_position.Position) → IsAtMost at p → IsBelow p to
-            → Says (A.tell answer.now) (A.told answer.now) answers p) }
-        ensures unsaid { IfOk result (λ to. IsAtMost to at → (answers : spec_position.Position → Option spec_answer.Answer)
-            → AnswersFrom S.to_come self.old at answers → Says (A.tell answer.now) (A.told answer.now) answers at → ⊥) }
+        ensures upto { IfOk result (λ to. IsAtMost to end) }
+        ensures kept { IfOk result (λ to. (whole : spec_position.Position) (answers : spec_position.Position → Option spec_answer.Answer)
+            → IsAtMost end whole → SaysFrom S.to_come (A.tell answer.now) (A.told answer.now) self.old at whole answers
+            → SaysFrom S.to_come (A.tell answer.now) (A.told answer.now) self.new to whole answers) }
+        ensures said { IfOk result (λ to. (whole : spec_position.Position) (answers : spec_position.Position → Option spec_answer.Answer)
+            → SaysFrom S.to_come (A.tell answer.now) (A.told answer.now) self.old at whole answers → (p : spec_position.Position)
+            → IsAtMost at p → IsBelow p to → Says (A.tell answer.now) (A.told answer.now) answers p) }
+        ensures unsaid { IfOk result (λ to. IsAtMost to at → IsBelow at end → (whole : spec_position.Position)
+            (answers : spec_position.Position → Option spec_answer.Answer)
+            → SaysFrom S.to_come (A.tell answer.now) (A.told answer.now) self.old at whole answers
+            → Says (A.tell answer.now) (A.told answer.now) answers at → ⊥) }
         ensures fewer { IfOk result (λ to. (left_of S.left self.new ≤ left_of S.left self.old)
-            × (IsBelow at to → left_of S.left self.new < left_of S.left self.old)) }
+            × (IsBelow at to → IsBelow to end → left_of S.left self.new < left_of S.left self.old)) }
     {
         self.pass_to(at);
         let Some(span) = self.next else {
@@ -72,11 +83,15 @@ impl<S: SpanSource> SequenceSpans<S> {
         if !answer.is_that(&span.answer)? {
             return Ok(at);
         }
+        if end < span.high {
+            return Ok(end);
+        }
         self.pass();
         Ok(span.high)
     }
 
-    // The least position from `at` up to `end` at which one of the spans says this, or `end`. The spans below it are passed.
+    // The least position from `at` up to `end` at which one of the spans says this, or `end`. The spans that end before it without saying
+    // this are passed.
     fn said_from<A: TableAnswer>(
         &mut self,
         answer: &A,
@@ -86,28 +101,32 @@ impl<S: SpanSource> SequenceSpans<S> {
         requires { IsAtMost at end }
         ensures past { IfOk result (λ to. IsAtMost at to) }
         ensures upto { IfOk result (λ to. IsAtMost to end) }
-        ensures unsaid { IfOk result (λ to. (answers : spec_position.Position → Option spec_answer.Answer)
-            → AnswersFrom S.to_come self.old at answers → (p : spec_position.Position) → IsAtMost at p → IsBelow p to
-            → Says (A.tell answer.now) (A.told answer.now) answers p → ⊥) }
-        ensures said { IfOk result (λ to. IsBelow to end → (answers : spec_position.Position → Option spec_answer.Answer)
-            → AnswersFrom S.to_come self.old at answers → Says (A.tell answer.now) (A.told answer.now) answers to) }
+        ensures kept { IfOk result (λ _. (whole : spec_position.Position) (answers : spec_position.Position → Option spec_answer.Answer)
+            → IsAtMost end whole → SaysFrom S.to_come (A.tell answer.now) (A.told answer.now) self.old at whole answers
+            → SaysFrom S.to_come (A.tell answer.now) (A.told answer.now) self.new at whole answers) }
+        ensures unsaid { IfOk result (λ to. (whole : spec_position.Position) (answers : spec_position.Position → Option spec_answer.Answer)
+            → SaysFrom S.to_come (A.tell answer.now) (A.told answer.now) self.old at whole answers → (p : spec_position.Position)
+            → IsAtMost at p → IsBelow p to → Says (A.tell answer.now) (A.told answer.now) answers p → ⊥) }
+        ensures said { IfOk result (λ to. IsBelow to end → (whole : spec_position.Position)
+            (answers : spec_position.Position → Option spec_answer.Answer)
+            → SaysFrom S.to_come (A.tell answer.now) (A.told answer.now) self.old at whole answers
+            → Says (A.tell answer.now) (A.told answer.now) answers to) }
     {
-        let mut from = at;
-        loop {
-            self.pass_to(from);
-            let Some(span) = self.next else {
-                return Ok(end);
-            };
-            let low = later(span.low, from);
+        self.pass_to(at);
+        while let Some(span) = self.next {
+            let low = later(span.low, at);
             if low >= end {
                 return Ok(end);
             }
             if answer.is_that(&span.answer)? {
                 return Ok(low);
             }
+            if span.high >= end {
+                return Ok(end);
+            }
             self.pass();
-            from = span.high;
         }
+        Ok(end)
     }
 
     // Passes the spans that end at or below a position.
@@ -128,63 +147,93 @@ impl<S: SpanSource> SequenceSpans<S> {
     // Passes the next span.
     fn pass(&mut self)
         requires { IsSome self.old.next }
-        ensures passed { (at to : spec_position.Position) (answers : spec_position.Position → Option spec_answer.Answer)
-            (span : spec_span.Span) → AnswersFrom S.to_come self.old at answers → self.old.next ≡ Some span → IsAtMost span.high to
-            → IsAtMost at to → AnswersFrom S.to_come self.new to answers }
+        ensures gives { (list : List spec_span.Span) → S.to_come self.old.spans list
+            → GivesFirstSpan (S.to_come self.new.spans) list self.new.next }
         ensures fewer { left_of S.left self.new < left_of S.left self.old }
     {
         self.next = self.spans.next_span();
     }
 }
 
-// The first position from `low` on at which none of the sequences says this, if it is below `high`. Otherwise some position from `high`
-// on, below which one of them says it.
-pub(crate) fn first_unsaid<S: SpanSource, A: TableAnswer>(
+// The least position from `low` up to `high` at which one of the sequences says this, if that is looked for, and else the least at which
+// none does; or `high`. No span that reaches beyond `high` is passed.
+pub(crate) fn first_turn<S: SpanSource, A: TableAnswer>(
+    sequences: &mut [SequenceSpans<S>],
+    answer: &A,
+    is_said: bool,
+    low: Position,
+    high: Position,
+) -> Result<Position, AllocError>
+    requires { IsBelow low high }
+    ensures past { IfOk result (λ to. IsAtMost low to) }
+    ensures upto { IfOk result (λ to. IsAtMost to high) }
+    ensures kept { IfOk result (λ to. StillSay S.to_come (A.tell answer.now) (A.told answer.now) sequences.old sequences.new low to high) }
+    ensures turns { IfOk result (TurnsAt is_said (OneSays S.to_come (A.tell answer.now) (A.told answer.now) sequences.old low)
+        (NoneSays S.to_come (A.tell answer.now) (A.told answer.now) sequences.old low) low high) }
+{
+    if is_said {
+        let to = first_said(sequences, answer, low, high)?;
+        return Ok(to);
+    }
+    let to = first_unsaid(sequences, answer, low, high)?;
+    Ok(to)
+}
+
+// The least position from `low` up to `high` at which none of the sequences says this, or `high`.
+fn first_unsaid<S: SpanSource, A: TableAnswer>(
     sequences: &mut [SequenceSpans<S>],
     answer: &A,
     low: Position,
     high: Position,
 ) -> Result<Position, AllocError>
+    requires { IsBelow low high }
     ensures past { IfOk result (λ to. IsAtMost low to) }
+    ensures upto { IfOk result (λ to. IsAtMost to high) }
+    ensures kept { IfOk result (λ to. StillSay S.to_come (A.tell answer.now) (A.told answer.now) sequences.old sequences.new low to high) }
     ensures said { IfOk result (λ to. (p : spec_position.Position) → IsAtMost low p → IsBelow p to
         → OneSays S.to_come (A.tell answer.now) (A.told answer.now) sequences.old low p) }
     ensures unsaid { IfOk result (λ to. IsBelow to high
         → NoneSays S.to_come (A.tell answer.now) (A.told answer.now) sequences.old low to) }
 {
     let mut at = low;
-    while at < high {
-        let to = said_by_turns(sequences, answer, at)?;
+    loop {
+        let to = said_by_turns(sequences, answer, at, high)?;
+        if to >= high {
+            return Ok(to);
+        }
         if at >= to {
             return Ok(at);
         }
         at = to;
     }
-    Ok(at)
 }
 
-// Up to which position, from `at` on, the sequences say this, each asked once, in turn.
+// Up to which position, from `at` up to `end`, the sequences say this, each asked once, in turn.
 fn said_by_turns<S: SpanSource, A: TableAnswer>(
     sequences: &mut [SequenceSpans<S>],
     answer: &A,
     at: Position,
+    end: Position,
 ) -> Result<Position, AllocError>
+    requires { IsBelow at end }
     ensures past { IfOk result (λ to. IsAtMost at to) }
-    ensures kept { IfOk result (StillAnswer S.to_come sequences.old sequences.new at) }
+    ensures upto { IfOk result (λ to. IsAtMost to end) }
+    ensures kept { IfOk result (λ to. StillSay S.to_come (A.tell answer.now) (A.told answer.now) sequences.old sequences.new at to end) }
     ensures said { IfOk result (λ to. (p : spec_position.Position) → IsAtMost at p → IsBelow p to
         → OneSays S.to_come (A.tell answer.now) (A.told answer.now) sequences.old at p) }
     ensures unsaid { IfOk result (λ to. IsAtMost to at
         → NoneSays S.to_come (A.tell answer.now) (A.told answer.now) sequences.old at at) }
-    ensures fewer { IfOk result (λ to. IsBelow at to → all_left S.left sequences.new < all_left S.left sequences.old) }
+    ensures fewer { IfOk result (λ to. IsBelow at to → IsBelow to end → all_left S.left sequences.new < all_left S.left sequences.old) }
 {
     let mut to = at;
     for sequence in sequences.iter_mut() {
-        to = sequence.said_to(answer, to)?;
+        to = sequence.said_to(answer, to, end)?;
     }
     Ok(to)
 }
 
 // The least position from `low` up to `high` at which one of the sequences says this, or `high`.
-pub(crate) fn first_said<S: SpanSource, A: TableAnswer>(
+fn first_said<S: SpanSource, A: TableAnswer>(
     sequences: &mut [SequenceSpans<S>],
     answer: &A,
     low: Position,
@@ -193,6 +242,7 @@ pub(crate) fn first_said<S: SpanSource, A: TableAnswer>(
     requires { IsAtMost low high }
     ensures past { IfOk result (λ to. IsAtMost low to) }
     ensures upto { IfOk result (λ to. IsAtMost to high) }
+    ensures kept { IfOk result (λ _. StillSay S.to_come (A.tell answer.now) (A.told answer.now) sequences.old sequences.new low low high) }
     ensures unsaid { IfOk result (λ to. (p : spec_position.Position) → IsAtMost low p → IsBelow p to
         → NoneSays S.to_come (A.tell answer.now) (A.told answer.now) sequences.old low p) }
     ensures said { IfOk result (λ to. IsBelow to high

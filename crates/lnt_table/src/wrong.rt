@@ -9,7 +9,7 @@ ghost use Rattle.lnt_sequences.specs.Copies.{AreExtentsOf, IsAnyAnswer};
 ghost use Rattle.lnt_sequences.specs.Sequences.{line_answer, live_sequences, Selection};
 ghost use Rattle.lnt_lines.specs.Indexed.{IsIndexOf};
 ghost use Rattle.lnt_table.specs.AnyCopy.{AreAllWrong, AreFirstWrong, EndsWrong, IsRightIn};
-ghost use Rattle.lnt_table.specs.Asked.{AreCopies, FindsPiece, OfLive, unanswered_in};
+ghost use Rattle.lnt_table.specs.Asked.{AreCopies, AreReady, FindsPiece, OfLive, piece_end, unanswered_in};
 ghost use Rattle.lnt_table.specs.WrongStretches.{CanGoOn, HasFoundWrong, rank, wrong_left};
 
 use crate::copies::Copies;
@@ -22,8 +22,8 @@ use std::alloc::{AllocError, Global};
 /// Gives the stretches of positions in a scope at which a table isn't right, if the answer of any live sequence that holds a position is:
 /// the longest runs of such positions with the same two answers, that of the table and that of the kept sequence.
 ///
-/// No list of them is held. At each stretch at which the kept sequences answer otherwise it holds a cursor for each sequence that holds it,
-/// and decodes each of these up to twice for each stretch that it gives.
+/// No list of them is held. At each stretch at which the kept sequences answer otherwise it holds a cursor for each sequence that holds it.
+/// Each of these is decoded once, however many stretches it holds.
 #[derive(Drop)]
 pub struct WrongStretches<'i, 'a, K, D> {
     kept: K,
@@ -46,7 +46,12 @@ pub(crate) struct Piece {
 
 impl<'i, 'a, D: Drop, K: KeptStretches<D>> WrongStretches<'i, 'a, K, D> {
     /// None of those was given of an index that has the extents of all live sequences (`index_with_copies`).
-    pub fn of(kept: K, index: &'i Index<'a>, scope: Scope) -> WrongStretches<'i, 'a, K, D>
+    pub fn of(
+        alloc: Global,
+        kept: K,
+        index: &'i Index<'a>,
+        scope: Scope,
+    ) -> WrongStretches<'i, 'a, K, D>
         ensures kept { result.kept ≡ kept }
         ensures scope { result.scope ≡ scope }
         ensures going { ((by_section : spec_position.Position → Option K.Told) × (by_table : spec_position.Position → Option K.Told)
@@ -59,7 +64,7 @@ impl<'i, 'a, D: Drop, K: KeptStretches<D>> WrongStretches<'i, 'a, K, D> {
     {
         WrongStretches {
             kept,
-            copies: Copies::of(index),
+            copies: Copies::of(alloc, index),
             scope,
             hand: None,
             from: Position { address: 0, op: 0 },
@@ -165,6 +170,7 @@ impl<'i, 'a, D: Drop, K: KeptStretches<D>> WrongStretches<'i, 'a, K, D> {
             return Ok(false);
         };
         apart(ended.low, ended.end);
+        self.copies.pass_to(alloc, self.end, ended.low);
         self.hand = Some(ended.difference);
         self.from = ended.low;
         self.end = ended.end;
@@ -193,7 +199,9 @@ fn wrong_in<D, K: KeptStretches<D>>(
         → ((p : spec_position.Position) → IsAtMost from p → IsBelow p end
         → AreAnswers by_section by_table (K.value_of difference.now).by_section (K.value_of difference.now).by_table p)
         → (K.value_of difference.now).by_table ≢ (K.value_of difference.now).by_section
-        → FindsPiece (IsRightIn scope (IsAnyAnswer (K.tell kept.now) selection) by_table) from end found)) }
+        → AreReady (K.tell kept.now) selection copies.old (K.value_of difference.now).by_table from end
+        → FindsPiece (IsRightIn scope (IsAnyAnswer (K.tell kept.now) selection) by_table) from end found
+        × AreReady (K.tell kept.now) selection copies.new (K.value_of difference.now).by_table (piece_end end found) end)) }
 {
     if !kept.is_answered(difference) {
         return Ok(unanswered(scope, from, end));

@@ -12,8 +12,16 @@ const AROUND: &[u8] = b"low,high,path,line
 0x0ff0,0x1006,/s/a.c,5
 ";
 
-// The first of them of the index and a table by path, in the scope: where it begins and ends.
-fn first_wrong(alloc: Global, index: &Index<'_>, table: &[u8], scope: Scope) -> Option<(u64, u64)> {
+// Where a stretch begins and ends.
+type Range = (u64, u64);
+
+// The two stretches of the index and a table by path, in the scope, if there are no more.
+fn both_wrong(
+    alloc: Global,
+    index: &Index<'_>,
+    table: &[u8],
+    scope: Scope,
+) -> Option<(Range, Range)> {
     let Ok(TableRead::Table((version, spans))) = hold_table(alloc, table) else {
         return None;
     };
@@ -22,15 +30,24 @@ fn first_wrong(alloc: Global, index: &Index<'_>, table: &[u8], scope: Scope) -> 
         version,
         differences: differences_by_path(index, &spans, version),
     };
-    let mut wrong = WrongStretches::of(kept, index, scope);
-    match wrong.next_wrong(alloc) {
-        Ok(Some(ended)) => Some((ended.low.address, ended.end.address)),
-        _ => None,
-    }
+    let mut wrong = WrongStretches::of(alloc, kept, index, scope);
+    let Ok(Some(first)) = wrong.next_wrong(alloc) else {
+        return None;
+    };
+    let Ok(Some(second)) = wrong.next_wrong(alloc) else {
+        return None;
+    };
+    let Ok(None) = wrong.next_wrong(alloc) else {
+        return None;
+    };
+    Some((
+        (first.low.address, first.end.address),
+        (second.low.address, second.end.address),
+    ))
 }
 
 // The same of two copies.
-fn of_copies(alloc: Global, table: &[u8], scope: Scope) -> Option<(u64, u64)> {
+fn of_copies(alloc: Global, table: &[u8], scope: Scope) -> Option<(Range, Range)> {
     let mut both = Vec::from_slice(alloc, &PLAIN).ok()?;
     both.extend_from_slice(&COPY).ok()?;
     let mut section = Counted::new(whole(&both), 1000);
@@ -39,7 +56,7 @@ fn of_copies(alloc: Global, table: &[u8], scope: Scope) -> Option<(u64, u64)> {
         ..OPTIONS
     };
     match index_with_copies(alloc, &mut section, &STRINGS, &options) {
-        Ok(JudgedIndex::Good(index)) => first_wrong(alloc, &index, table, scope),
+        Ok(JudgedIndex::Good(index)) => both_wrong(alloc, &index, table, scope),
         _ => None,
     }
 }
@@ -47,6 +64,7 @@ fn of_copies(alloc: Global, table: &[u8], scope: Scope) -> Option<(u64, u64)> {
 #[test]
 fn stretches_of_copies(rt: HostRuntime) {
     let alloc = rt.alloc();
-    assert!(rt; of_copies(alloc, AROUND, Scope::All) == Some((0x0ff0, 0x1000)));
-    assert!(rt; of_copies(alloc, AROUND, Scope::Answered) == Some((0x0ff0, 0x1000)));
+    let both = Some(((0x0ff0, 0x1000), (0x1004, 0x1006)));
+    assert!(rt; of_copies(alloc, AROUND, Scope::All) == both);
+    assert!(rt; of_copies(alloc, AROUND, Scope::Answered) == both);
 }

@@ -1,8 +1,12 @@
 use Rattle.std.proofs.Common.{◌∙◌, arith, [], ◌∷◌, ◌++◌, ap, map, option_map, Some, subst, sym}
 use Rattle.lnt_spans.specs.declared.answer.Answer.{Answer}
+use Rattle.lnt_spans.specs.declared.position.Position.{Position}
+use Rattle.lnt_spans.specs.Positions.{IsAtMost}
+use Rattle.lnt_spans.proofs.PositionLaws.{below_is_at_most}
 use Rattle.lnt_sequences.specs.Copies.{IsAnyAnswer}
 use Rattle.lnt_sequences.specs.Sequences.{line_answer}
 use Rattle.lnt_table.specs.WrongStretches.{AreWrongBelow}
+use Rattle.lnt_table.proofs.CopiesLemmas.{ready_from_whole, whole_from_ready}
 use Rattle.lnt_table.proofs.AskedLemmas.{all_given, kept_said, next_found}
 use Rattle.lnt_table.proofs.wrong.WrongStretches.go_on.Goals as goal
 
@@ -21,8 +25,8 @@ returns-clause-found g c selection f f' list h =
     let ended = c.in-Some.ended in
     let tell = c.in_ok-ended.ensures.tell in
     record {
-      is_index = h.is_index;
-      live = h.live;
+      is_index = rw c.pass_to.ensures.index h.is_index;
+      live = rw c.pass_to.ensures.index h.live;
       same = λ p. h.same p
           ∙ ap (λ (t : Answer → g.K.KeptStretches.Told). option_map t (line_answer selection p)) (sym tell);
       given = h.given ++ ended.difference ∷ [];
@@ -33,6 +37,11 @@ returns-clause-found g c selection f f' list h =
           (next_found g.K.KeptStretches.value_of c.args.self.now.scope _ f f' h.given c.args.self.now.hand c.args.self.now.from
           c.args.self.now.end list h.are (kept_said _ selection f h.same) c.requires.passed ended.difference ended.low ended.end is_low
           told.1 told.2);
+      ready = ready_from_whole (g.K.KeptStretches.tell c.next_kept.new.self) selection c.pass_to.new.self _ ended.low ended.end
+          (c.pass_to.ensures.ready selection
+          (whole_from_ready (g.K.KeptStretches.tell c.args.self.now.kept) selection c.args.self.now.copies _
+          c.args.self.now.from c.args.self.now.end h.ready))
+          (subst (λ (q : Position). IsAtMost q ended.end) (sym is_low) (below_is_at_most told.2.lasts.past));
     }
 
 pub returns-clause-fewer : goal.returns-clause-fewer
