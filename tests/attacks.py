@@ -88,13 +88,30 @@ def long_directory(count):
     return bytes([1, 1, 8, 1]) + b"/" + b"s" * count + b"\0"
 
 
-def one_span(count, path):
+def one_span(count, path, line=1):
     """A table by path of one span, of this many addresses."""
-    return b"low,high,path,line\n0x1001,0x%x,%s,1\n" % (0x1001 + count, path)
+    return b"low,high,path,line\n0x1001,0x%x,%s,%d\n" % (0x1001 + count, path, line)
 
 
 # A row at the next address, of the same line.
 NEXT_ROW = b"\x20"
+# Two of them, of the next line and of the same.
+TWO_LINES = b"\x21\x1f"
+
+
+def copy_by_turns(count):
+    """A sequence of one line, a copy that has another at each other address, and a table that has this one at each address."""
+    both = (one_sequence(ONE_DIRECTORY + TWO_FILES, rows) for rows in (NEXT_ROW * count, TWO_LINES * (count // 2)))
+    return {"line": b"".join(both), "table": one_span(count, b"/s/a", 2)}
+
+
+def copies_of_no_line(count):
+    """Two copies whose lines alternate, and a table that has another line at each address."""
+    lines = (b"0x%x,0x%x,/s/a,%d\n" % (0x1001 + place, 0x1002 + place, 3 + place % 2) for place in range(count))
+    return {
+        "line": one_sequence(ONE_DIRECTORY + TWO_FILES, TWO_LINES * (count // 2)) * 2,
+        "table": b"low,high,path,line\n" + b"".join(lines),
+    }
 
 
 def long_paths(length):
@@ -618,6 +635,10 @@ SHAPES = [
     Shape("columns of a file with a long path", "check LINE TABLE", columns_of_one_file, 400_000, Growth()),
     Shape("columns of a file with a long path", "check LINE TABLE --all", columns_of_one_file, 400_000, Growth()),
     Shape("two files of a long path", "table LINE --lines", two_files, 640_000, Growth()),
+    *(
+        Shape(name, "check LINE TABLE --any-copy --all", make, 200_000, Growth(memory=Memory(times(7), status=1)))
+        for name, make in (("a copy that is right by turns", copy_by_turns), ("copies that are wrong at each row", copies_of_no_line))
+    ),
     *(
         Shape(name, words + " --str STRINGS" * with_strings, make, size, Growth(memory=Memory(status=status)))
         for name, make, size, with_strings in SAME_PATHS

@@ -87,16 +87,16 @@ AreSequencesFrom IsSo selection extents first sequences = (k : ℕ) (d : Sequenc
     → (placed : Placed) → Contains (live_sequences selection.dead selection.units) placed
     → placed.id ≡ (get_or extents (first + k) e).id → IsSo (get_or sequences k d) (answer_in (placed ∷ []))
 
--- From any position on it gives this answer.
+-- From any position on it answers as the function does.
 abbrev pub IsWholeSource : SequenceSpans Cursor → (Position → Option Answer) → Type 0
 IsWholeSource sequence answers = (at : Position) → AnswersFrom AreToCome sequence at answers
 
--- From this position on each gives the answers of its sequence.
+-- From this position on each answers as its sequence does.
 abbrev pub AreWhole : Selection → Copies → Position → Type 0
 AreWhole selection copies whole = AreSequencesFrom (λ sequence. AnswersFrom AreToCome sequence whole) selection copies.group.extents.now
     copies.held copies.sequences.items
 
--- So they do; and from `at` on each says what the table does exactly where its sequence does, if the table answers.
+-- They do; and if the table answers, each says what it does from `at` on, exactly where its sequence says it.
 abbrev pub AreReady : {X : Type 0} → (Answer → X) → Selection → Copies → Option X → Position → Position → Type 0
 AreReady tell selection copies None at whole = AreWhole selection copies whole
 AreReady tell selection copies (Some told) at whole = AreSequencesFrom (λ sequence. SaysFrom AreToCome tell told sequence at whole)

@@ -76,7 +76,7 @@ pub trait KeptStretches<D> {
         ensures { result ≡ is_some (value_of difference.now).by_table };
 
     /// The least position from `low` up to `high` at which one of the live sequences says what the table does in this stretch, if that is
-    /// looked for; and else the least at which none of them does. The next one of the stretch is looked for from there on.
+    /// looked for; and else the least at which none of them does. For the same stretch the copies may then be asked from there on.
     fn first_turn(
         &self,
         alloc: Global,
