@@ -5,6 +5,8 @@ import re
 
 from symbol_cases import table_of, tried
 
+# The file is read in blocks of so many bytes.
+BLOCK = 1 << 16
 NOTHING = (b"MODULE ", b"INFO ", b"STACK ", b"INLINE ", b"INLINE_ORIGIN ")
 
 
@@ -146,6 +148,8 @@ def picked_file(picked):
                 lines.append(line)
             low = max(0, low + picked.choice((size, size, size + 8, -8, 0)))
     end = picked.choice((b"\n", b"\n", b"\r\n", b"\r"))
+    if picked.randrange(20) == 0:
+        lines.insert(1, b"INFO " + b"x" * (picked.choice((BLOCK, BLOCK, 2 * BLOCK)) - picked.randrange(len(end.join(lines)) + 20)))
     return end.join(lines) + end * picked.randrange(2)
 
 

@@ -1,9 +1,12 @@
+pub mod BlockLemmas
 pub mod CutLemmas
 pub mod FieldLemmas
 pub mod FileLemmas
 pub mod GsymLemmas
 pub mod KeptLemmas
+pub mod NameLemmas
 pub mod PieceLemmas
 pub mod PlainLemmas
 pub mod ReadingLemmas
+pub mod SourceLemmas
 pub mod TreeLemmas

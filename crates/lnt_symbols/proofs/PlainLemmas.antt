@@ -274,7 +274,12 @@ first_line : (text line rest : List ℕ) (said : LineRecord) → text ≡ line +
 first_line text line rest said e h says =
     let long : length text ≡ length line + length (10 ∷ rest) = ap length e ∙ length-append line (10 ∷ rest) in
     record {
-      says = record { line = line; joined = ap lines_of e ∙ line_ends [] line rest h; says = says };
+      says = λ more. record {
+        line = line;
+        joined = ap (λ t. lines_of (t ++ more)) e
+            ∙ (ap lines_of (append_assoc line (10 ∷ rest) more) ∙ line_ends [] line (rest ++ more) h);
+        says = says;
+      };
       at_end = subst (λ t. IsEnd t rest) (sym (e ∙ sym (append_assoc line (10 ∷ []) rest))) (end_append (line ++ 10 ∷ []) rest);
       shorter = omega (arith, long);
     }

@@ -1,26 +1,25 @@
 -- What records come to, taken one by one.
 use Rattle.std.proofs.Common.{◌≡◌, ◌∙◌, ℕ, ◌+◌, Bool, true, false, List, [], ◌∷◌, ◌++◌, Option, Some, None, Ok, Err, refl, sym, ap}
-use Rattle.std.proofs.Common.{append_assoc, flat_map, map, subst}
-use Rattle.std.specs.Prelude.{◌==◌, ◌-◌, if◌then◌else◌, drop, IfOk, IfSome, length, Result}
-use Rattle.std.specs.Borrow.{Bor}
+use Rattle.std.proofs.Common.{append_assoc, arith, flat_map, map, subst}
+use Rattle.std.specs.Prelude.{MatchBool, ◌==◌, ◌<◌, if◌then◌else◌, IfOk, Result}
+use Rattle.std.proofs.lemmas.Bool.Decides.{nat_tests}
 use Rattle.std.proofs.lemmas.List.{append-nil, map-append}
-use Rattle.lnt_symbols.specs.BreakpadLines.{LineRecord, lines_of, Range, RecordSaid, file_said, function_said, line_said, public_said}
+use Rattle.lnt_symbols.specs.BreakpadLines.{LineRecord, lines_of, Range, record_of}
+use Rattle.lnt_symbols.specs.BreakpadLines.{RecordSaid, file_said, function_said, line_said, public_said}
 use Rattle.lnt_symbols.specs.BreakpadLines.{nothing_said}
 use Rattle.lnt_symbols.specs.BreakpadAnswers.{answer_at, FunctionSaid, functions_of, is_inside, is_kept, kept_after, lines_before}
 use Rattle.lnt_symbols.specs.BreakpadAnswers.{may_follow, name_in, records_from, records_of}
-use Rattle.lnt_symbols.specs.Pieces.{cut_line, HasTable, pieces_in, pieces_of}
-use Rattle.lnt_symbols.specs.Stepping.{first_name, HasKept, HasTaken, IsEnd, lines_left, more_kept, name_from, name_or, name_said}
-use Rattle.lnt_symbols.specs.Stepping.{pieces_after, SaysAt, SaysFirst, with_lines}
+use Rattle.lnt_symbols.specs.Pieces.{all_pieces, cut_line, HasTable, pieces_in, pieces_of}
+use Rattle.lnt_symbols.specs.Stepping.{AreInside, AreTaken, HasKept, HasRead, HasTaken, joined, more_kept, name_or, pieces_after}
+use Rattle.lnt_symbols.specs.Stepping.{records_after, with_lines}
 use Rattle.lnt_symbols.specs.declared.piece.Piece.{Piece}
+use Rattle.lnt_symbols.specs.declared.breakpad.file.Reader.{Reader}
 use Rattle.lnt_symbols.specs.declared.breakpad.reading.Reading.{Reading}
-use Rattle.lnt_symbols.specs.declared.fault.LineReason.{LineReason}
-use Rattle.lnt_symbols.specs.declared.fault.LineReason.TheVariants.{NoFunction}
 use Rattle.lnt_symbols.specs.declared.fault.SymbolFault.{SymbolFault}
-use Rattle.lnt_symbols.specs.declared.fault.SymbolFault.TheVariants.{Line}
 use Rattle.lnt_io.specs.declared.status.Status.{Status}
 use Rattle.lnt_io.specs.declared.status.Status.TheVariants.{Done}
 use Rattle.lnt_symbols.specs.SymbolTables.{Answers, answers_in_table, HasPrinted, loaded_at, breakpad_answers}
-use Rattle.lnt_symbols.proofs.FileLemmas.{end_of_end, faulty, first_refused, first_step, joined}
+use Rattle.lnt_symbols.proofs.FileLemmas.{records_step}
 use Rattle.lnt_symbols.proofs.TreeLemmas.{kept_of_ranges}
 
 -- ---- the pieces of all records
@@ -117,26 +116,27 @@ pieces_are base records = functions_cut base [] records
 -- ---- what was taken
 
 pub taken_none : (reading : Reading) → HasKept reading.functions [] → HasKept reading.lines [] → reading.function ≡ None
-    → reading.pieces.items ≡ [] → ((number : ℕ) (rest : List ℕ) → name_or reading.names number rest ≡ rest)
+    → all_pieces reading.pieces ≡ [] → ((number : ℕ) (rest : List ℕ) → name_or reading.names number rest ≡ rest) → AreInside reading.names
     → (base : ℕ) → HasTaken base [] reading
-taken_none reading functions lines function pieces names base = record {
+taken_none reading functions lines function pieces names inside base = record {
   functions = [];
   lines = [];
   kept_functions = functions;
   kept_lines = lines;
   pieces = λ later. rw pieces (rw function (pieces_are base later));
   names = λ later number. names number (name_in later number);
+  inside = inside;
 }
 
 -- with one record more, where it says the same of what is left
 took : (base : ℕ) (done : List RecordSaid) (said : RecordSaid) (old new : Reading) (h : HasTaken base done old)
     (functions lines : List Range) → HasKept new.functions functions → HasKept new.lines lines
-    → ((later : List RecordSaid) → old.pieces.items ++ pieces_after base h.functions (with_lines old.function h.lines) (said ∷ later)
-    ≡ new.pieces.items ++ pieces_after base functions (with_lines new.function lines) later)
+    → ((later : List RecordSaid) → all_pieces old.pieces ++ pieces_after base h.functions (with_lines old.function h.lines) (said ∷ later)
+    ≡ all_pieces new.pieces ++ pieces_after base functions (with_lines new.function lines) later)
     → ((later : List RecordSaid) (number : ℕ) → name_or new.names number (name_in later number)
     ≡ name_or old.names number (name_in (said ∷ later) number))
-    → HasTaken base (done ++ said ∷ []) new
-took base done said old new h functions lines kept_functions kept_lines pieces names = record {
+    → AreInside new.names → HasTaken base (done ++ said ∷ []) new
+took base done said old new h functions lines kept_functions kept_lines pieces names inside = record {
   functions = functions;
   lines = lines;
   kept_functions = kept_functions;
@@ -144,18 +144,20 @@ took base done said old new h functions lines kept_functions kept_lines pieces n
   pieces = λ later. ap (pieces_of base) (append_assoc done (said ∷ []) later) ∙ (h.pieces (said ∷ later) ∙ pieces later);
   names = λ later number. names later number
       ∙ (h.names (said ∷ later) number ∙ ap (λ rs. name_in rs number) (sym (append_assoc done (said ∷ []) later)));
+  inside = inside;
 }
 
 pub took_nothing : (base : ℕ) (done : List RecordSaid) (old : Reading) → HasTaken base done old
     → HasTaken base (done ++ nothing_said ∷ []) old
 took_nothing base done old h =
     took base done nothing_said old old h h.functions h.lines h.kept_functions h.kept_lines (λ later. refl) (λ later number. refl)
+    h.inside
 
 pub took_outside : (base : ℕ) (done : List RecordSaid) (line : LineRecord) (old : Reading) → old.function ≡ None
     → HasTaken base done old → HasTaken base (done ++ line_said line ∷ []) old
 took_outside base done line old none h =
     took base done (line_said line) old old h h.functions h.lines h.kept_functions h.kept_lines (λ later. rw none refl)
-    (λ later number. refl)
+    (λ later number. refl) h.inside
 
 pub took_public : (base : ℕ) (done : List RecordSaid) (old new : Reading) → new.functions ≡ old.functions → new.lines ≡ old.lines
     → new.function ≡ None → new.pieces ≡ old.pieces → new.names ≡ old.names → HasTaken base done old
@@ -163,22 +165,17 @@ pub took_public : (base : ℕ) (done : List RecordSaid) (old new : Reading) → 
 took_public base done old new functions lines function pieces names h =
     took base done public_said old new h h.functions h.lines (subst (λ f. HasKept f h.functions) (sym functions) h.kept_functions)
     (subst (λ l. HasKept l h.lines) (sym lines) h.kept_lines) (λ later. rw function (rw pieces refl)) (λ later number. rw names refl)
+    (subst AreInside (sym names) h.inside)
 
-name_there : (file : List ℕ) (place n : ℕ) (name : List ℕ) → SaysAt file place (file_said n name) → name_from file place ≡ name
-name_there file place n name (lines, s) = ap first_name s.joined ∙ ap name_said s.says
-
-pub took_file : (base : ℕ) (done : List RecordSaid) (n place : ℕ) (name : List ℕ) (old new : Reading) → new.functions ≡ old.functions
+pub took_file : (base : ℕ) (done : List RecordSaid) (n : ℕ) (name : List ℕ) (old new : Reading) → new.functions ≡ old.functions
     → new.lines ≡ old.lines → new.function ≡ old.function → new.pieces ≡ old.pieces
-    → ((other : ℕ) (rest : List ℕ) → name_or new.names other rest
-    ≡ name_or old.names other (if n == other then name_from old.names.file.now place else rest))
-    → HasTaken base done old → SaysAt old.names.file.now place (file_said n name)
-    → HasTaken base (done ++ file_said n name ∷ []) new
-took_file base done n place name old new functions lines function pieces names h says =
+    → AreInside new.names
+    → ((other : ℕ) (rest : List ℕ) → name_or new.names other rest ≡ name_or old.names other (if n == other then name else rest))
+    → HasTaken base done old → HasTaken base (done ++ file_said n name ∷ []) new
+took_file base done n name old new functions lines function pieces inside names h =
     took base done (file_said n name) old new h h.functions h.lines (subst (λ f. HasKept f h.functions) (sym functions) h.kept_functions)
     (subst (λ l. HasKept l h.lines) (sym lines) h.kept_lines) (λ later. rw function (rw pieces refl))
-    (λ later number. subst (λ x. name_or new.names number (name_in later number)
-    ≡ name_or old.names number (if n == number then x else name_in later number))
-    (name_there old.names.file.now place n name says) (names number (name_in later number)))
+    (λ later number. names number (name_in later number)) inside
 
 pub took_function : (base : ℕ) (done : List RecordSaid) (range : Range) (old new : Reading) (h : HasTaken base done old)
     → HasKept new.functions (more_kept h.functions range) → HasKept new.lines []
@@ -186,35 +183,36 @@ pub took_function : (base : ℕ) (done : List RecordSaid) (range : Range) (old n
     → new.names ≡ old.names → HasTaken base (done ++ function_said range ∷ []) new
 took_function base done range old new h functions lines function pieces names =
     took base done (function_said range) old new h (more_kept h.functions range) [] functions lines
-    (by_test (is_kept (λ y. y) h.functions range) refl) (λ later number. rw names refl)
+    (by_test (is_kept (λ y. y) h.functions range) refl) (λ later number. rw names refl) (subst AreInside (sym names) h.inside)
   where
     by_test : (t : Bool) → is_kept (λ y. y) h.functions range ≡ t → (later : List RecordSaid)
-        → old.pieces.items ++ pieces_after base h.functions (with_lines old.function h.lines) (function_said range ∷ later)
-        ≡ new.pieces.items ++ pieces_after base (more_kept h.functions range) (with_lines new.function []) later
+        → all_pieces old.pieces ++ pieces_after base h.functions (with_lines old.function h.lines) (function_said range ∷ later)
+        ≡ all_pieces new.pieces ++ pieces_after base (more_kept h.functions range) (with_lines new.function []) later
     by_test true e later = rw function (rw e (rw pieces refl))
     by_test false e later = rw function (rw e (rw pieces refl))
 
 pub took_line : (base : ℕ) (done : List RecordSaid) (line : LineRecord) (f : Range) (old new : Reading) (h : HasTaken base done old)
     → old.function ≡ Some f → new.functions ≡ old.functions → HasKept new.lines (more_kept h.lines line.range)
     → new.function ≡ old.function
-    → new.pieces.items ≡ (if is_kept (λ y. y) h.lines line.range then old.pieces.items ++ cut_line base f line else old.pieces.items)
+    → all_pieces new.pieces ≡ (if is_kept (λ y. y) h.lines line.range then all_pieces old.pieces ++ cut_line base f line
+    else all_pieces old.pieces)
     → new.names ≡ old.names → HasTaken base (done ++ line_said line ∷ []) new
 took_line base done line f old new h here functions lines function pieces names =
     took base done (line_said line) old new h h.functions (more_kept h.lines line.range)
     (subst (λ f. HasKept f h.functions) (sym functions) h.kept_functions) lines
-    (by_test (is_kept (λ y. y) h.lines line.range) refl) (λ later number. rw names refl)
+    (by_test (is_kept (λ y. y) h.lines line.range) refl) (λ later number. rw names refl) (subst AreInside (sym names) h.inside)
   where
     by_test : (t : Bool) → is_kept (λ y. y) h.lines line.range ≡ t → (later : List RecordSaid)
-        → old.pieces.items ++ pieces_after base h.functions (with_lines old.function h.lines) (line_said line ∷ later)
-        ≡ new.pieces.items ++ pieces_after base h.functions (with_lines new.function (more_kept h.lines line.range)) later
-    by_test true e later = rw function (rw here (rw pieces (rw e (sym (append_assoc old.pieces.items (cut_line base f line)
+        → all_pieces old.pieces ++ pieces_after base h.functions (with_lines old.function h.lines) (line_said line ∷ later)
+        ≡ all_pieces new.pieces ++ pieces_after base h.functions (with_lines new.function (more_kept h.lines line.range)) later
+    by_test true e later = rw function (rw here (rw pieces (rw e (sym (append_assoc (all_pieces old.pieces) (cut_line base f line)
         (pieces_after base h.functions (Some (f, h.lines ++ line.range ∷ [])) later))))))
     by_test false e later = rw function (rw here (rw pieces (rw e refl)))
 
 pub taken_pieces : (base : ℕ) (done : List RecordSaid) (reading : Reading) → HasTaken base done reading
-    → reading.pieces.items ≡ pieces_of base done
+    → all_pieces reading.pieces ≡ pieces_of base done
 taken_pieces base done reading h =
-    sym (append-nil reading.pieces.items) ∙ (sym (h.pieces []) ∙ ap (pieces_of base) (append-nil done))
+    sym (append-nil (all_pieces reading.pieces)) ∙ (sym (h.pieces []) ∙ ap (pieces_of base) (append-nil done))
 
 pub taken_names : (base : ℕ) (done : List RecordSaid) (reading : Reading) → HasTaken base done reading
     → (number : ℕ) → name_or reading.names number [] ≡ name_in done number
@@ -222,76 +220,52 @@ taken_names base done reading h number = h.names [] number ∙ ap (λ rs. name_i
 
 -- ---- a file, as far as it's read
 
--- The lines before what is left were read, the last of which has this number, and their records were taken. What is left stands at the end.
-pub record HasRead (base : ℕ) (bytes : List ℕ) (number : ℕ) (inside : Bool) (rest : Option (Bor (List ℕ))) (reading : Reading) : Type 0
-  where
-    pub done : List RecordSaid
-    pub read : records_of bytes ≡ joined done (records_from (number + 1) inside (lines_left rest))
-    pub taken : HasTaken base done reading
-    pub at_end : IfSome rest (λ rest. IsEnd bytes rest.now)
-    pub file : reading.names.file.now ≡ bytes
-
 joined_none : (r : Result (List RecordSaid) SymbolFault) → r ≡ joined [] r
 joined_none (Err fault) = refl
 joined_none (Ok records) = refl
 
-pub read_first : (base : ℕ) (bytes : List ℕ) (rest : Option (Bor (List ℕ))) (reading : Reading)
-    → records_of bytes ≡ records_from 2 false (lines_left rest) → HasTaken base [] reading
-    → IfSome rest (λ rest. IsEnd bytes rest.now) → reading.names.file.now ≡ bytes → HasRead base bytes 1 false rest reading
-read_first base bytes rest reading read taken at_end file = record {
-  done = [];
-  read = read ∙ joined_none (records_from 2 false (lines_left rest));
-  taken = taken;
-  at_end = at_end;
-  file = file;
-}
+pub read_none : (whole : List ℕ) (reader : Reader) → reader.number ≡ 0 → HasTaken reader.base [] reader.reading
+    → HasRead whole reader (lines_of whole)
+read_none whole reader none taken = record { done = []; read = rw none (joined_none (records_of whole)); taken = taken }
 
-ends_on : (bytes left : List ℕ) (rest : Option (Bor (List ℕ))) → IsEnd bytes left → IfSome rest (λ rest. IsEnd left rest.now)
-    → IfSome rest (λ rest. IsEnd bytes rest.now)
-ends_on bytes left None h k = tt
-ends_on bytes left (Some rest) h k = end_of_end bytes left rest.now h k
+after_first : (number : ℕ) (inside : Bool) (lines : List (List ℕ)) → 0 < number
+    → records_after number inside lines ≡ records_from (number + 1) inside lines
+after_first number inside lines some = let other : (number == 0) ≡ false = grind (arith, nat_tests) in rw other refl
 
-pub read_more : (base : ℕ) (bytes : List ℕ) (number : ℕ) (inside goes_on : Bool) (left : Bor (List ℕ))
-    (old_rest rest : Option (Bor (List ℕ))) (said : RecordSaid) (old new : Reading)
-    → HasRead base bytes number inside old_rest old → old_rest ≡ Some left → SaysFirst left.now (Ok said) (lines_left rest)
-    → may_follow inside said ≡ true → goes_on ≡ is_inside inside said → IfSome rest (λ rest. IsEnd left.now rest.now)
-    → new.names.file ≡ old.names.file
-    → ((done : List RecordSaid) → HasTaken base done old → SaysAt old.names.file.now (length bytes - length left.now) said
-    → HasTaken base (done ++ said ∷ []) new)
-    → HasRead base bytes (number + 1) goes_on rest new
-read_more base bytes number inside goes_on left old_rest rest said old new h is says follows goes at_end file takes =
-    let read : records_of bytes ≡ joined h.done (records_from (number + 1) inside (lines_of left.now)) =
-    subst (λ (r : Option (Bor (List ℕ))). records_of bytes ≡ joined h.done (records_from (number + 1) inside (lines_left r))) is h.read in
-    let left_at : IsEnd bytes left.now = subst (λ (r : Option (Bor (List ℕ))). IfSome r (λ r. IsEnd bytes r.now)) is h.at_end in
-    record {
-      done = h.done ++ said ∷ [];
-      read = subst (λ b. records_of bytes ≡ joined (h.done ++ said ∷ []) (records_from (number + 1 + 1) b (lines_left rest))) (sym goes)
-          (read ∙ first_step h.done (number + 1) inside left.now (lines_left rest) said says follows);
-      taken = takes h.done h.taken (
-        lines_left rest,
-        subst (λ (t : List ℕ). SaysFirst t (Ok said) (lines_left rest))
-            (left_at ∙ sym (ap (drop (length bytes - length left.now)) h.file)) says,
-      );
-      at_end = ends_on bytes left.now rest left_at at_end;
-      file = ap (λ f. f.now) file ∙ h.file;
-    }
+module _ (whole line : List ℕ) (lines : List (List ℕ)) (old : Reader) (h : HasRead whole old (line ∷ lines)) where
+  read_there : 0 < old.number → records_of whole ≡ joined h.done (records_from (old.number + 1) old.inside (line ∷ lines))
+  read_there some = h.read ∙ ap (joined h.done) (after_first old.number old.inside (line ∷ lines) some)
 
-pub read_faulty : (base : ℕ) (bytes : List ℕ) (number : ℕ) (inside : Bool) (left : Bor (List ℕ)) (lines : List (List ℕ))
-    (reason : LineReason) (reading : Reading) → HasRead base bytes number inside (Some left) reading
-    → SaysFirst left.now (Err reason) lines → records_of bytes ≡ Err (Line (number + 1) reason)
-read_faulty base bytes number inside left lines reason reading h says =
-    h.read ∙ faulty h.done (number + 1) inside left.now lines reason says
+  -- one line more, which says this
+  pub read_said : (said : RecordSaid) (new : Reader) → 0 < old.number → record_of line ≡ Ok said → may_follow old.inside said ≡ true
+      → new.number ≡ old.number + 1 → new.inside ≡ is_inside old.inside said → new.base ≡ old.base
+      → ((done : List RecordSaid) → HasTaken old.base done old.reading → HasTaken old.base (done ++ said ∷ []) new.reading)
+      → HasRead whole new lines
+  read_said said new some says follows number inside base takes = record {
+    done = h.done ++ said ∷ [];
+    read = read_there some ∙ records_step h.done (old.number + 1) old.inside line lines said says follows
+        ∙ ap (joined (h.done ++ said ∷ [])) (sym (rw number (rw inside
+        (after_first (old.number + 1) (is_inside old.inside said) lines (omega (arith))))));
+    taken = rw base (takes h.done h.taken);
+  }
 
-pub read_refused : (base : ℕ) (bytes : List ℕ) (number : ℕ) (inside : Bool) (left : Bor (List ℕ)) (lines : List (List ℕ))
-    (said : RecordSaid) (reading : Reading) → HasRead base bytes number inside (Some left) reading
-    → SaysFirst left.now (Ok said) lines → may_follow inside said ≡ false → records_of bytes ≡ Err (Line (number + 1) NoFunction)
-read_refused base bytes number inside left lines said reading h says refused =
-    h.read ∙ first_refused h.done (number + 1) inside left.now lines said says refused
+-- all lines were read
+pub read_to_end : (whole : List ℕ) (reader : Reader) (lines : List (List ℕ)) (is_last : Bool) → (is_last ≡ false → ⊥)
+    → HasRead whole reader [] → MatchBool is_last (HasRead whole reader []) (HasRead whole reader lines)
+read_to_end whole reader lines true last h = h
+read_to_end whole reader lines false last h = absurd (last refl)
 
-pub read_whole : (base : ℕ) (bytes : List ℕ) (number : ℕ) (inside : Bool) (reading : Reading)
-    → HasRead base bytes number inside None reading
-    → (records : List RecordSaid) × (records_of bytes ≡ Ok records) × HasTaken base records reading
-read_whole base bytes number inside reading h = (h.done, h.read ∙ ap Ok (append-nil h.done), h.taken)
+-- some are left
+pub read_in_part : (whole : List ℕ) (reader : Reader) (lines : List (List ℕ)) (is_last : Bool) → is_last ≡ false
+    → HasRead whole reader lines → MatchBool is_last (HasRead whole reader []) (HasRead whole reader lines)
+read_in_part whole reader lines true part h = cc part
+read_in_part whole reader lines false part h = h
+
+-- no line is left
+pub read_whole : (whole : List ℕ) (reader : Reader) → 0 < reader.number → HasRead whole reader []
+    → AreTaken reader.base whole reader.reading
+read_whole whole reader some h =
+    (h.done, h.read ∙ ap (joined h.done) (after_first reader.number reader.inside [] some) ∙ ap Ok (append-nil h.done), h.taken)
 
 -- ---- what is printed
 

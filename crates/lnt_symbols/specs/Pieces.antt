@@ -1,6 +1,7 @@
 -- Pieces, and those of a Breakpad file. No public contract speaks of them.
-use Rattle.std.specs.Prelude.{◌≡◌, ℕ, ◌+◌, ◌-◌, ◌^◌, ◌<◌, ◌≤◌, ◌⊎◌, All, AllPairs, Bool, ◌&&◌, not, nat_lt, false, List, [], ◌∷◌, length}
-use Rattle.std.specs.Prelude.{flat_map, if◌then◌else◌, None, Option, find, option_map}
+use Rattle.std.specs.Prelude.{◌≡◌, ℕ, ◌+◌, ◌-◌, ◌^◌, ◌<◌, ◌≤◌, ◌⊎◌, All, AllPairs}
+use Rattle.std.specs.Prelude.{Bool, ◌&&◌, not, nat_lt, false, List, [], ◌∷◌, ◌++◌, length}
+use Rattle.std.specs.Prelude.{flat_map, Vec, if◌then◌else◌, None, Option, find, option_map}
 use Rattle.std.specs.List.{AllAdjacentBelow}
 use Rattle.std.specs.Io.KnownBytes.{Appends}
 use Rattle.lnt_spans.specs.declared.position.Position.{Position}
@@ -9,12 +10,30 @@ use Rattle.lnt_records.specs.declared.by_path.version.PathVersion.TheVariants.{F
 use Rattle.lnt_records.specs.PathSpans.{PathAnswer, whole}
 use Rattle.lnt_compare.specs.Canonical.{IsCanonicalPathTable}
 use Rattle.lnt_symbols.specs.declared.piece.Piece.{Piece}
+use Rattle.lnt_symbols.specs.declared.pieces.Pieces.{Pieces}
+use Rattle.lnt_symbols.specs.declared.pieces.PieceSpans.{PieceSpans}
 use Rattle.lnt_symbols.specs.BreakpadLines.{LineRecord, Range, RecordSaid}
 use Rattle.lnt_symbols.specs.BreakpadAnswers.{end_of, FunctionSaid, functions_of, kept}
 
 -- No piece begins below the one before it.
 abbrev pub AreRising : List Piece → Type 0
 AreRising pieces = AllAdjacentBelow (λ a b. a.low ≤ b.low) pieces (length pieces)
+
+-- So it is, and the first doesn't begin below this address.
+abbrev pub RisesFrom : ℕ → List Piece → Type 0
+RisesFrom low [] = Unit {0}
+RisesFrom low (piece ∷ pieces) = (low ≤ piece.low) × RisesFrom piece.low pieces
+
+-- the pieces of blocks, and then these
+abbrev pub pieces_in_blocks : {A : Type 0} → List (Vec Piece A) → List Piece → List Piece
+pieces_in_blocks full last = flat_map (λ block. block.items) full ++ last
+
+abbrev pub all_pieces : Pieces → List Piece
+all_pieces pieces = pieces_in_blocks pieces.full.items pieces.last.items
+
+-- the pieces whose spans are still to come
+abbrev pub still_left : PieceSpans → List Piece
+still_left spans = spans.rest.now ++ pieces_in_blocks spans.full.now spans.last.now
 
 -- the span of a piece
 abbrev pub piece_span : Piece → Span

@@ -1,6 +1,6 @@
 -- What the values of the code say.
-use Rattle.std.specs.Prelude.{◌≡◌, ◌+◌, ◌-◌, ◌*◌, ◌^◌, ◌<◌, ◌≤◌, ◌==◌, nat_lt, ℕ, Bool, true, if◌then◌else◌, List, [], ◌∷◌, ◌++◌, drop}
-use Rattle.std.specs.Prelude.{length, Option, Some, None, Ok, Err, IsSome, Contains}
+use Rattle.std.specs.Prelude.{◌≡◌, ◌⊎◌, ◌+◌, ◌-◌, ◌*◌, ◌^◌, ◌<◌, ◌≤◌, ◌==◌, nat_lt, ℕ, Bool, true, if◌then◌else◌, List, [], ◌∷◌, ◌++◌, drop}
+use Rattle.std.specs.Prelude.{length, take, Option, Some, None, Result, Ok, Err, IsSome, Contains}
 use Rattle.std.specs.BTreeMap.{BTreeMap, get}
 use Rattle.std.specs.List.{AllByRecursion, list_all}
 use Rattle.std.specs.Ordering.{nat_cmp}
@@ -8,16 +8,20 @@ use Rattle.std.specs.Borrow.{Bor}
 use Rattle.lnt_text.specs.Digits.{digit_value}
 use Rattle.lnt_symbols.specs.BreakpadLines.{is_hexadecimal_digit, LineRecord, lines_of, Range, record_of, RecordSaid, Said}
 use Rattle.lnt_symbols.specs.BreakpadLines.{file_said, function_said, line_said, public_said, nothing_said}
-use Rattle.lnt_symbols.specs.BreakpadAnswers.{end_of, is_kept, kept, name_in, records_of}
+use Rattle.lnt_symbols.specs.BreakpadAnswers.{end_of, is_kept, kept, name_in, records_from, records_of, records_of_lines}
+use Rattle.lnt_symbols.specs.declared.fault.SymbolFault.{SymbolFault}
+use Rattle.lnt_io.specs.declared.stop.Stop.TheVariants.{Memory}
+use Rattle.lnt_symbols.specs.declared.breakpad.file.Reader.{Reader}
 use Rattle.lnt_symbols.specs.declared.breakpad.file.ReadingStop.{ReadingStop}
-use Rattle.lnt_symbols.specs.declared.breakpad.file.ReadingStop.TheVariants.{Fault, Memory}
+use Rattle.lnt_symbols.specs.declared.breakpad.file.ReadingStop.TheVariants.{Fault, Stop}
 use Rattle.lnt_symbols.specs.declared.breakpad.kept.KeptRanges.{KeptRanges}
 use Rattle.lnt_symbols.specs.declared.breakpad.names.Names.{Names}
+use Rattle.lnt_symbols.specs.declared.breakpad.names.Place.{Place}
 use Rattle.lnt_symbols.specs.declared.breakpad.reading.Reading.{Reading}
 use Rattle.lnt_symbols.specs.declared.breakpad.record.Record.{Record}
 use Rattle.lnt_symbols.specs.declared.breakpad.record.Record.TheVariants.{File, Function, Line, Public, Nothing}
 use Rattle.lnt_symbols.specs.declared.piece.Piece.{Piece}
-use Rattle.lnt_symbols.specs.Pieces.{cut_line, pieces_of}
+use Rattle.lnt_symbols.specs.Pieces.{all_pieces, cut_line, pieces_of}
 
 abbrev pub said_of : Record → RecordSaid
 said_of (File number name) = file_said number name.now
@@ -26,20 +30,25 @@ said_of (Line line) = line_said line
 said_of Public = public_said
 said_of Nothing = nothing_said
 
--- the lines after one that has an end; none after one that has none
-abbrev pub lines_left : Option (Bor (List ℕ)) → List (List ℕ)
-lines_left None = []
-lines_left (Some rest) = lines_of rest.now
+-- These bytes may follow those after a line whose end was found there: any, if one stands after the end; else none.
+abbrev pub MayFollow : Option (Bor (List ℕ)) → List ℕ → Type 0
+MayFollow None more = more ≡ []
+MayFollow (Some rest) more = (0 < length rest.now) ⊎ (more ≡ [])
+
+-- the lines after one that has an end, if these bytes follow; none after one that has none
+abbrev pub lines_left : Option (Bor (List ℕ)) → List ℕ → List (List ℕ)
+lines_left None more = []
+lines_left (Some rest) more = lines_of (rest.now ++ more)
 
 -- how much is left to read
 abbrev pub left_length : Option (Bor (List ℕ)) → ℕ
 left_length None = 0
 left_length (Some rest) = length rest.now + 1
 
--- Why a file wasn't read. Want of memory says nothing of the file.
+-- Why a file wasn't read. That it can't be, or want of memory, says nothing of the file.
 abbrev pub IsStop : List ℕ → ReadingStop → Type 0
 IsStop bytes (Fault fault) = records_of bytes ≡ Err fault
-IsStop bytes Memory = Unit {0}
+IsStop bytes (Stop stop) = Unit {0}
 
 -- ---- kept ranges, as far as they are known
 
@@ -81,33 +90,28 @@ HasKept ranges those = AreThose ranges.rising.items ranges.last ranges.tree thos
 
 -- ---- names
 
--- the name of a file that is said, if one is
-abbrev pub name_said : Said RecordSaid → List ℕ
-name_said (Ok (file_said number name)) = name
-name_said said = []
+-- the text at a place
+abbrev pub text_at : List ℕ → Place → List ℕ
+text_at texts place = take place.length (drop place.start texts)
 
--- the name that the first of these lines says
-abbrev pub first_name : List (List ℕ) → List ℕ
-first_name [] = []
-first_name (line ∷ lines) = name_said (record_of line)
-
--- the name that the line says which begins at a place of a file
-abbrev pub name_from : List ℕ → ℕ → List ℕ
-name_from file place = first_name (lines_of (drop place file))
-
--- the name from a place, if there is one, else another
-abbrev pub known_or : List ℕ → Option ℕ → List ℕ → List ℕ
-known_or file None rest = rest
-known_or file (Some place) rest = name_from file place
+-- the text at a place, if there is one, else another
+abbrev pub known_or : List ℕ → Option Place → List ℕ → List ℕ
+known_or texts None rest = rest
+known_or texts (Some place) rest = text_at texts place
 
 -- the name with a number, which has 32 bits, else another
 abbrev pub name_or : Names → ℕ → List ℕ → List ℕ
 name_or names number rest =
-    if nat_lt number (2 ^ 32) then known_or names.file.now (get nat_cmp names.places number) rest else rest
+    if nat_lt number (2 ^ 32) then known_or names.texts.items (get nat_cmp names.places number) rest else rest
 
 -- the name with a number, or nothing
 abbrev pub name_at : Names → ℕ → List ℕ
 name_at names number = name_or names number []
+
+-- Each place lies in the texts.
+abbrev pub AreInside : Names → Type 0
+AreInside names = (number : ℕ) (place : Place) → get nat_cmp names.places number ≡ Some place
+    → place.start + place.length ≤ length names.texts.items
 
 -- ---- records, taken one by one
 
@@ -140,9 +144,36 @@ pub record HasTaken (base : ℕ) (done : List RecordSaid) (reading : Reading) : 
   pub kept_functions : HasKept reading.functions functions
   pub kept_lines : HasKept reading.lines lines
   pub pieces : (later : List RecordSaid) → pieces_of base (done ++ later)
-      ≡ reading.pieces.items ++ pieces_after base functions (with_lines reading.function lines) later
+      ≡ all_pieces reading.pieces ++ pieces_after base functions (with_lines reading.function lines) later
   pub names : (later : List RecordSaid) (number : ℕ) → name_or reading.names number (name_in later number)
       ≡ name_in (done ++ later) number
+  pub inside : AreInside reading.names
+
+-- ---- lines, taken one by one
+
+-- records before those that are left, or what is wrong with these
+abbrev pub joined : List RecordSaid → Result (List RecordSaid) SymbolFault → Result (List RecordSaid) SymbolFault
+joined done (Err fault) = Err fault
+joined done (Ok records) = Ok (done ++ records)
+
+-- the records of lines after so many
+abbrev pub records_after : ℕ → Bool → List (List ℕ) → Result (List RecordSaid) SymbolFault
+records_after number inside lines = if number == 0 then records_of_lines lines else records_from (number + 1) inside lines
+
+-- The lines of a file were read up to these.
+pub record HasRead (whole : List ℕ) (reader : Reader) (lines : List (List ℕ)) : Type 0 where
+  pub done : List RecordSaid
+  pub read : records_of whole ≡ joined done (records_after reader.number reader.inside lines)
+  pub taken : HasTaken reader.base done reader.reading
+
+-- The file has records, and this is what they come to.
+abbrev pub AreTaken : ℕ → List ℕ → Reading → Type 0
+AreTaken base bytes reading = (records : List RecordSaid) × (records_of bytes ≡ Ok records) × HasTaken base records reading
+
+-- The stop isn't that of a source.
+abbrev pub IsHeldStop : ReadingStop → Type 0
+IsHeldStop (Fault fault) = Unit {0}
+IsHeldStop (Stop source) = source ≡ Memory
 
 -- ---- the first line of a text
 
@@ -156,13 +187,9 @@ pub record SaysFirst (text : List ℕ) (said : Said RecordSaid) (lines : List (L
   pub joined : lines_of text ≡ line ∷ lines
   pub says : record_of line ≡ said
 
--- The line that begins at a place of a file says this.
-abbrev pub SaysAt : List ℕ → ℕ → RecordSaid → Type 0
-SaysAt file place said = (lines : List (List ℕ)) × SaysFirst (drop place file) (Ok said) lines
-
--- The first line is a line record that says this, with an end, and the rest follows.
+-- The first line is a line record that says this, with an end, and the rest follows, whatever comes after it.
 pub record IsFirstLine (text : List ℕ) (said : LineRecord) (rest : List ℕ) : Type 0 where
-  pub says : SaysFirst text (Ok (line_said said)) (lines_of rest)
+  pub says : (more : List ℕ) → SaysFirst (text ++ more) (Ok (line_said said)) (lines_of (rest ++ more))
   pub at_end : IsEnd text rest
   pub shorter : length rest < length text
 

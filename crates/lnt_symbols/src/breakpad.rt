@@ -11,5 +11,6 @@ mod print;
 mod range;
 mod reading;
 mod record;
+mod source;
 
-pub(crate) use print::print_breakpad;
+pub(crate) use print::{print_breakpad, print_short};

@@ -7,6 +7,7 @@ mod fault;
 mod gsym;
 pub mod laws;
 mod piece;
+mod pieces;
 mod print;
 mod table;
 

@@ -5,10 +5,11 @@ ghost use Rattle.lnt_io.specs.IoStops.{IsPrinting};
 ghost use Rattle.lnt_io.specs.Stopping.{CountsFailure, IsTooLongOn};
 ghost use Rattle.lnt_symbols.specs.SymbolTables.{BeginsPrinted, HasPrinted, symbol_answers};
 
-use crate::breakpad::print_breakpad;
+use crate::breakpad::{print_breakpad, print_short};
 use crate::gsym::print_gsym;
+use lnt_compare::Window;
 use lnt_gsym::order_of;
-use lnt_io::{IoStop, Source, Status, read_all};
+use lnt_io::{IoStop, Source, Status};
 use std::alloc::Global;
 use std::io::Write;
 
@@ -35,9 +36,16 @@ pub fn print_symbols<R: Source, W: Write>(
     ensures failures { CountsFailure ⟦<R as Source>⟧ file.old file.new result IoStop.Read }
     ensures too_long { IsTooLongOn ⟦<R as Source>⟧ file.old file.new result IoStop.TooLong }
 {
-    let bytes = read_all(alloc, file)?;
+    let window = Window::of(alloc, file)?;
+    if window.bytes().len() >= MAGIC && order_of(window.bytes()).is_none() {
+        return print_breakpad(alloc, window, file, base, out);
+    }
+    let bytes = window.rest_after(alloc, &[], file)?;
     print_bytes(alloc, bytes.as_slice(), base, out)
 }
+
+// How many bytes tell whether it is a GSYM file.
+const MAGIC: usize = 4;
 
 // Prints the table of the symbol file with these bytes, or the line of its first fault.
 fn print_bytes<W: Write>(
@@ -53,6 +61,6 @@ fn print_bytes<W: Write>(
 {
     match order_of(bytes) {
         Some(order) => print_gsym(alloc, order, bytes, out),
-        None => print_breakpad(alloc, bytes, base, out),
+        None => print_short(alloc, bytes, base, out),
     }
 }

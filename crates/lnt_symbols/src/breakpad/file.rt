@@ -1,16 +1,19 @@
 //! Reads the records of a Breakpad file.
-ghost use Rattle.std.specs.Prelude.{◌≡◌, ◌<◌, ◌≤◌, ℕ, List, [], ◌∷◌, ◌++◌, true, false, length, Ok, Err, IfOk, IfErr, IfSome, MatchResult};
-ghost use Rattle.lnt_symbols.specs.Stepping.{HasTaken, IsEnd, IsStop, SaysFirst, left_length, lines_left, said_of};
-ghost use Rattle.lnt_symbols.specs.BreakpadLines.{lines_from, lines_of, RecordSaid};
+ghost use Rattle.std.specs.Prelude.{◌≡◌, ◌+◌, ◌<◌, ◌≤◌, ◌-◌, ℕ, List, [], ◌∷◌};
+ghost use Rattle.std.specs.Prelude.{◌++◌, true, false, drop, length, Ok, Err, IfOk, IfErr, IfSome};
+ghost use Rattle.std.specs.Prelude.{IsSome, IsSomeAnd, IsTrue, MatchBool, MatchOption, Some};
+ghost use Rattle.lnt_symbols.specs.Stepping.{HasRead, IsEnd, IsHeldStop, IsStop, MayFollow, left_length, lines_left, said_of};
+ghost use Rattle.lnt_symbols.specs.BreakpadLines.{lines_from, lines_of, record_of};
 ghost use Rattle.lnt_symbols.specs.declared.breakpad.file.ReadingStop.TheVariants.{Fault};
 ghost use Rattle.lnt_symbols.specs.declared.fault.SymbolFault.TheVariants.{Line};
-ghost use Rattle.lnt_symbols.specs.BreakpadAnswers.{is_inside, may_follow, records_from, records_of};
+ghost use Rattle.lnt_symbols.specs.BreakpadAnswers.{is_inside, may_follow};
 
 use crate::breakpad::line::{has_zero, record_of};
 use crate::breakpad::plain::plain_line;
 use crate::breakpad::reading::Reading;
 use crate::breakpad::record::Record;
 use crate::fault::{LineReason, SymbolFault};
+use lnt_io::Stop;
 use std::alloc::{AllocError, Global};
 
 /// Why a file wasn't read.
@@ -18,90 +21,211 @@ use std::alloc::{AllocError, Global};
 pub(crate) enum ReadingStop {
     /// The first fault of the file.
     Fault(SymbolFault),
-    /// Memory ran out.
-    Memory,
+    /// Its bytes weren't read, or memory ran out.
+    Stop(Stop),
 }
 
-/// Reads the records of a file whose address 0 is loaded at `base`.
-pub(crate) fn read_file<'a>(
-    alloc: Global,
-    bytes: &'a [u8],
+// A line number that is too large to be counted: so many lines don't fit any memory.
+const OUT_OF_NUMBERS: ReadingStop = ReadingStop::Stop(Stop::Memory);
+
+/// The records of a file whose address 0 is loaded at `base`, as far as its lines were read.
+#[derive(Drop)]
+pub(crate) struct Reader {
     base: u64,
-) -> Result<Reading<'a>, ReadingStop>
-    ensures ok { IfOk result (λ reading. (records : List RecordSaid) × (records_of bytes.now ≡ Ok records)
-        × HasTaken base records reading) }
-    ensures err { IfErr result (IsStop bytes.now) }
-{
-    let mut rest = first_line(bytes)?;
-    let mut reading = Reading::new(alloc, bytes);
-    let mut number = 1;
-    let mut inside = false;
-    while let Some(left) = rest {
-        number += 1;
-        let place = bytes.len() - left.len();
-        let (said, after) = match next_record(left) {
-            Ok(found) => found,
-            Err(reason) => return Err(fault_in(number, reason)),
+    /// What they come to.
+    pub(crate) reading: Reading,
+    // the number of lines
+    number: u64,
+    // whether a function goes on
+    inside: bool,
+}
+
+impl Reader {
+    /// No line was read.
+    pub(crate) fn new(alloc: Global, base: u64) -> Reader
+        ensures base { result.base ≡ base }
+        ensures read { (whole : List ℕ) → HasRead whole result (lines_of whole) }
+    {
+        Reader {
+            base,
+            reading: Reading::new(alloc),
+            number: 0,
+            inside: false,
+        }
+    }
+
+    /// Reads the next lines, which begin with these bytes: those whose end can be told, or all if the file ends with these bytes. Gives
+    /// the number of bytes that are left.
+    pub(crate) fn read(
+        &mut self,
+        alloc: Global,
+        bytes: &[u8],
+        is_last: bool,
+    ) -> Result<usize, ReadingStop>
+        ensures base { self.new.base ≡ self.old.base }
+        ensures left { IfOk result (λ left. left ≤ length bytes.now) }
+        ensures read { (whole more : List ℕ) → HasRead whole self.old (lines_of (bytes.now ++ more)) → (IsTrue is_last → more ≡ [])
+            → IfOk result (λ left. MatchBool is_last (HasRead whole self.new [])
+            (HasRead whole self.new (lines_of (drop (length bytes.now - left) bytes.now ++ more)))) }
+        ensures stop { (whole more : List ℕ) → HasRead whole self.old (lines_of (bytes.now ++ more)) → (IsTrue is_last → more ≡ [])
+            → IfErr result (IsStop whole) }
+        ensures held { IfErr result IsHeldStop }
+        ensures counts { IsTrue is_last → IfOk result (λ _. 0 < self.new.number) }
+    {
+        let mut rest = Some(bytes);
+        while let Some(left) = rest {
+            match self.read_line(alloc, left, is_last) {
+                Ok(Some(after)) => rest = after,
+                Ok(None) => return Ok(left.len()),
+                Err(stop) => return Err(stop),
+            }
+        }
+        Ok(0)
+    }
+
+    // Reads the first line, and gives what stands after its end, if it has one; or `None` if its end can't be told yet.
+    #[inline(always)]
+    fn read_line<'b>(
+        &mut self,
+        alloc: Global,
+        bytes: &'b [u8],
+        is_last: bool,
+    ) -> Result<Option<Option<&'b [u8]>>, ReadingStop>
+        ensures base { self.new.base ≡ self.old.base }
+        ensures some { IfOk result (λ found. MatchOption found (is_last ≡ false) (λ after. is_last ≡ false → IsSome after)) }
+        ensures at_end { IfOk result (λ found. IfSome found (λ after. IfSome after (λ rest. IsEnd bytes.now rest.now))) }
+        ensures shorter { IfOk result (λ found. IfSome found (λ after. left_length after ≤ length bytes.now)) }
+        ensures read { (whole more : List ℕ) → HasRead whole self.old (lines_of (bytes.now ++ more)) → (IsTrue is_last → more ≡ [])
+            → IfOk result (λ found. MatchOption found (HasRead whole self.new (lines_of (bytes.now ++ more)))
+            (λ after. HasRead whole self.new (lines_left after more))) }
+        ensures stop { (whole more : List ℕ) → HasRead whole self.old (lines_of (bytes.now ++ more)) → (IsTrue is_last → more ≡ [])
+            → IfErr result (IsStop whole) }
+        ensures held { IfErr result IsHeldStop }
+        ensures counts { IfOk result (λ found. IfSome found (λ _. 0 < self.new.number)) }
+    {
+        if self.number > 0 {
+            if let Some((line, rest)) = plain_line(bytes) {
+                return match self.take(alloc, Record::Line(line)) {
+                    Ok(()) => Ok(Some(Some(rest))),
+                    Err(stop) => Err(stop),
+                };
+            }
+        }
+        self.read_any(alloc, bytes, is_last)
+    }
+
+    // The same, whatever stands in the line.
+    #[inline(never)]
+    fn read_any<'b>(
+        &mut self,
+        alloc: Global,
+        bytes: &'b [u8],
+        is_last: bool,
+    ) -> Result<Option<Option<&'b [u8]>>, ReadingStop>
+        ensures base { self.new.base ≡ self.old.base }
+        ensures some { IfOk result (λ found. MatchOption found (is_last ≡ false) (λ after. is_last ≡ false → IsSome after)) }
+        ensures at_end { IfOk result (λ found. IfSome found (λ after. IfSome after (λ rest. IsEnd bytes.now rest.now))) }
+        ensures shorter { IfOk result (λ found. IfSome found (λ after. left_length after ≤ length bytes.now)) }
+        ensures read { (whole more : List ℕ) → HasRead whole self.old (lines_of (bytes.now ++ more)) → (IsTrue is_last → more ≡ [])
+            → IfOk result (λ found. MatchOption found (HasRead whole self.new (lines_of (bytes.now ++ more)))
+            (λ after. HasRead whole self.new (lines_left after more))) }
+        ensures stop { (whole more : List ℕ) → HasRead whole self.old (lines_of (bytes.now ++ more)) → (IsTrue is_last → more ≡ [])
+            → IfErr result (IsStop whole) }
+        ensures held { IfErr result IsHeldStop }
+        ensures counts { IfOk result (λ found. IfSome found (λ _. 0 < self.new.number)) }
+    {
+        let (line, rest) = next_line(bytes);
+        if !is_last && !goes_on(rest) {
+            return Ok(None);
+        }
+        match self.take_line(alloc, line) {
+            Ok(()) => Ok(Some(rest)),
+            Err(stop) => Err(stop),
+        }
+    }
+
+    // Takes the next line.
+    fn take_line(&mut self, alloc: Global, line: &[u8]) -> Result<(), ReadingStop>
+        ensures base { self.new.base ≡ self.old.base }
+        ensures read { (whole : List ℕ) (lines : List (List ℕ)) → HasRead whole self.old (line.now ∷ lines)
+            → IfOk result (λ _. HasRead whole self.new lines) }
+        ensures stop { (whole : List ℕ) (lines : List (List ℕ)) → HasRead whole self.old (line.now ∷ lines) → IfErr result (IsStop whole) }
+        ensures held { IfErr result IsHeldStop }
+        ensures counts { IfOk result (λ _. 0 < self.new.number) }
+    {
+        if self.number == 0 {
+            return self.take_first(line);
+        }
+        let Some(number) = self.number.checked_add(1) else {
+            return Err(OUT_OF_NUMBERS);
         };
-        if !may_follow(inside, &said) {
+        match record_of(line) {
+            Ok(said) => self.take(alloc, said),
+            Err(reason) => Err(fault_in(number, reason)),
+        }
+    }
+
+    // Takes the first line.
+    fn take_first(&mut self, line: &[u8]) -> Result<(), ReadingStop>
+        requires { self.old.number ≡ 0 }
+        ensures base { self.new.base ≡ self.old.base }
+        ensures read { (whole : List ℕ) (lines : List (List ℕ)) → HasRead whole self.old (line.now ∷ lines)
+            → IfOk result (λ _. HasRead whole self.new lines) }
+        ensures stop { (whole : List ℕ) (lines : List (List ℕ)) → HasRead whole self.old (line.now ∷ lines) → IfErr result (IsStop whole) }
+        ensures held { IfErr result IsHeldStop }
+        ensures counts { IfOk result (λ _. 0 < self.new.number) }
+    {
+        if !line.starts_with(b"MODULE ") {
+            return Err(fault_in(1, LineReason::NotASymbolFile));
+        }
+        if has_zero(line) {
+            return Err(fault_in(1, LineReason::ZeroByte));
+        }
+        self.number = 1;
+        self.inside = false;
+        Ok(())
+    }
+
+    // Takes what the next line says, which isn't the first one.
+    #[inline(always)]
+    fn take(&mut self, alloc: Global, said: Record<'_>) -> Result<(), ReadingStop>
+        requires { 0 < self.old.number }
+        ensures base { self.new.base ≡ self.old.base }
+        ensures read { (whole line : List ℕ) (lines : List (List ℕ)) → record_of line ≡ Ok (said_of said.entry)
+            → HasRead whole self.old (line ∷ lines) → IfOk result (λ _. HasRead whole self.new lines) }
+        ensures stop { (whole line : List ℕ) (lines : List (List ℕ)) → record_of line ≡ Ok (said_of said.entry)
+            → HasRead whole self.old (line ∷ lines) → IfErr result (IsStop whole) }
+        ensures held { IfErr result IsHeldStop }
+        ensures counts { IfOk result (λ _. 0 < self.new.number) }
+    {
+        let Some(number) = self.number.checked_add(1) else {
+            return Err(OUT_OF_NUMBERS);
+        };
+        if !may_follow(self.inside, &said) {
             return Err(fault_in(number, LineReason::NoFunction));
         }
-        inside = is_inside(inside, &said);
-        match reading.take(alloc, said, place, base) {
-            Ok(()) => rest = after,
-            Err(AllocError) => return Err(ReadingStop::Memory),
+        self.number = number;
+        self.inside = is_inside(self.inside, &said);
+        match self.reading.take(alloc, said, self.base) {
+            Ok(()) => Ok(()),
+            Err(AllocError) => Err(ReadingStop::Stop(Stop::Memory)),
         }
     }
-    Ok(reading)
 }
 
-// What stands after the end of the first line, if it has one.
-fn first_line<'a>(bytes: &'a [u8]) -> Result<Option<&'a [u8]>, ReadingStop>
-    ensures ok { IfOk result (λ rest. records_of bytes.now ≡ records_from 2 false (lines_left rest)) }
-    ensures err { IfErr result (IsStop bytes.now) }
-    ensures at_end { IfOk result (λ rest. IfSome rest (λ rest. IsEnd bytes.now rest.now)) }
-    ensures shorter { IfOk result (λ rest. left_length rest ≤ length bytes.now) }
+// Whether a line has an end, and a byte stands after it.
+fn goes_on(rest: Option<&[u8]>) -> bool
+    ensures { IsTrue result → IsSomeAnd rest.entry (λ rest. 0 < length rest.now) }
 {
-    let (line, rest) = next_line(bytes);
-    if !line.starts_with(b"MODULE ") {
-        return Err(fault_in(1, LineReason::NotASymbolFile));
+    match rest {
+        Some(rest) => !rest.is_empty(),
+        None => false,
     }
-    if has_zero(line) {
-        return Err(fault_in(1, LineReason::ZeroByte));
-    }
-    Ok(rest)
-}
-
-// What the first line says, and what stands after its end, if it has one.
-#[inline(always)]
-fn next_record<'a>(bytes: &'a [u8]) -> Result<(Record<'a>, Option<&'a [u8]>), LineReason>
-    ensures said { MatchResult result (λ f. SaysFirst bytes.now (Ok (said_of f.0)) (lines_left f.1))
-        (λ reason. (lines : List (List ℕ)) × SaysFirst bytes.now (Err reason) lines) }
-    ensures at_end { IfOk result (λ f. IfSome f.1 (λ rest. IsEnd bytes.now rest.now)) }
-    ensures shorter { IfOk result (λ f. IfSome f.1 (λ rest. length rest.now < length bytes.now)) }
-{
-    if let Some((line, rest)) = plain_line(bytes) {
-        return Ok((Record::Line(line), Some(rest)));
-    }
-    any_record(bytes)
-}
-
-// The same, whatever stands in the line.
-#[inline(never)]
-fn any_record<'a>(bytes: &'a [u8]) -> Result<(Record<'a>, Option<&'a [u8]>), LineReason>
-    ensures said { MatchResult result (λ f. SaysFirst bytes.now (Ok (said_of f.0)) (lines_left f.1))
-        (λ reason. (lines : List (List ℕ)) × SaysFirst bytes.now (Err reason) lines) }
-    ensures at_end { IfOk result (λ f. IfSome f.1 (λ rest. IsEnd bytes.now rest.now)) }
-    ensures shorter { IfOk result (λ f. IfSome f.1 (λ rest. length rest.now < length bytes.now)) }
-{
-    let (line, rest) = next_line(bytes);
-    let record = record_of(line)?;
-    Ok((record, rest))
 }
 
 // The first line, and what stands after its end, if it has one.
 pub(crate) fn next_line<'a>(bytes: &'a [u8]) -> (&'a [u8], Option<&'a [u8]>)
-    ensures lines { lines_of bytes.now ≡ result.0.now ∷ lines_left result.1 }
+    ensures lines { (more : List ℕ) → MayFollow result.1 more → lines_of (bytes.now ++ more) ≡ result.0.now ∷ lines_left result.1 more }
     ensures at_end { IfSome result.1 (λ rest. IsEnd bytes.now rest.now) }
     ensures shorter { IfSome result.1 (λ rest. length rest.now < length bytes.now) }
 {
@@ -119,7 +243,7 @@ pub(crate) fn next_line<'a>(bytes: &'a [u8]) -> (&'a [u8], Option<&'a [u8]>)
 
 // What stands after a carriage return: without the line feed that belongs to it.
 fn after_return<'a>(rest: &'a [u8]) -> &'a [u8]
-    ensures lines { lines_from true [] rest.now ≡ lines_of result.now }
+    ensures lines { (more : List ℕ) → MayFollow (Some result) more → lines_from true [] (rest.now ++ more) ≡ lines_of (result.now ++ more) }
     ensures at_end { IsEnd rest.now result.now }
     ensures length { length result.now ≤ length rest.now }
 {

@@ -2,51 +2,60 @@
 ghost use Rattle.std.specs.Prelude.{◌≡◌, ◌==◌, ℕ, List, Some, if◌then◌else◌, IfOk, OnOk};
 ghost use Rattle.std.specs.BTreeMap.{Updates, get};
 ghost use Rattle.std.specs.Ordering.{nat_cmp};
-ghost use Rattle.lnt_symbols.specs.Stepping.{name_at, name_from, name_or};
+ghost use Rattle.lnt_symbols.specs.Stepping.{AreInside, name_at, name_or, text_at};
 
-use crate::breakpad::file::next_line;
-use crate::breakpad::line::record_of;
-use crate::breakpad::record::Record;
 use lnt_records::Paths;
 use std::alloc::{AllocError, Global};
 use std::collections::BTreeMap;
 
-/// The names of files, each as the place of the first line in the file that gives a name to its number.
-#[derive(Drop)]
-pub(crate) struct Names<'a> {
-    pub(crate) file: &'a [u8],
-    pub(crate) places: BTreeMap<u32, usize>,
+/// Where a text stands among others.
+#[derive(Clone, Copy)]
+pub(crate) struct Place {
+    pub(crate) start: usize,
+    pub(crate) length: usize,
 }
 
-impl<'a> Names<'a> {
-    /// No name of this file yet. It takes no memory.
-    pub(crate) fn new(alloc: Global, file: &'a [u8]) -> Names<'a>
-        ensures file { result.file ≡ file.entry }
+/// The names of files, of each number the first one. They stand one after another.
+#[derive(Drop)]
+pub(crate) struct Names {
+    pub(crate) texts: Vec<u8>,
+    pub(crate) places: BTreeMap<u32, Place>,
+}
+
+impl Names {
+    /// No name yet. It takes no memory.
+    pub(crate) fn new(alloc: Global) -> Names
+        ensures inside { AreInside result }
         ensures none { (number : ℕ) (rest : List ℕ) → name_or result number rest ≡ rest }
     {
         Names {
-            file,
+            texts: Vec::new(alloc),
             places: BTreeMap::new(alloc),
         }
     }
 
-    /// Puts in the name that the line at this place says, if there is none with its number.
-    pub(crate) fn put_first(&mut self, number: u32, place: usize) -> Result<(), AllocError>
-        ensures file { self.new.file ≡ self.old.file }
-        ensures names { OnOk result ((other : ℕ) (rest : List ℕ) → name_or self.new other rest
-            ≡ name_or self.old other (if number == other then name_from self.old.file.now place else rest)) }
+    /// Puts in a name, if there is none with its number.
+    pub(crate) fn put_first(&mut self, number: u32, name: &[u8]) -> Result<(), AllocError>
+        ensures inside { AreInside self.old → OnOk result (AreInside self.new) }
+        ensures names { AreInside self.old → OnOk result ((other : ℕ) (rest : List ℕ) → name_or self.new other rest
+            ≡ name_or self.old other (if number == other then name.now else rest)) }
     {
-        // Mostly there is none, and so the tree is searched once. Else the first is put back.
-        let Some(first) = self.put(number, place)? else {
-            return Ok(());
+        let place = Place {
+            start: self.texts.len(),
+            length: name.len(),
         };
-        self.put(number, first)?;
+        // Mostly there is none, and so the tree is searched once. Else the first is put back.
+        if let Some(first) = self.put(number, place)? {
+            self.put(number, first)?;
+            return Ok(());
+        }
+        self.texts.extend_from_slice(name)?;
         Ok(())
     }
 
     // Puts in a place in any case, and gives the one that was there.
-    fn put(&mut self, number: u32, place: usize) -> Result<Option<usize>, AllocError>
-        ensures file { self.new.file ≡ self.old.file }
+    fn put(&mut self, number: u32, place: Place) -> Result<Option<Place>, AllocError>
+        ensures texts { self.new.texts ≡ self.old.texts }
         ensures old { IfOk result (λ first. first ≡ get nat_cmp self.old.places number) }
         ensures updates { OnOk result (Updates nat_cmp self.old.places self.new.places number (Some place)) }
     {
@@ -57,20 +66,20 @@ impl<'a> Names<'a> {
     }
 
     // The name with a number, or nothing.
-    fn name_at(&self, number: u64) -> &'a [u8]
+    fn name_at(&self, number: u64) -> &[u8]
         ensures { result.now ≡ name_at self.now number }
     {
         let Ok(number) = u32::try_from(number) else {
             return &[];
         };
         match self.places.get(&number) {
-            Some(place) => name_from(self.file, *place),
+            Some(place) => text_at(&self.texts, *place),
             None => &[],
         }
     }
 }
 
-impl<'a> Paths for Names<'a> {
+impl Paths for Names {
     ghost use Rattle.lnt_symbols.specs.Stepping.{name_at};
 
     ghost bytes_of = { λ names unit file. name_at names file };
@@ -90,16 +99,15 @@ impl<'a> Paths for Names<'a> {
     }
 }
 
-// The name that the line at a place of a file says.
-fn name_from<'a>(file: &'a [u8], place: usize) -> &'a [u8]
-    ensures { result.now ≡ name_from file.now place }
+// The text at a place, or as much of it as there is.
+fn text_at(texts: &[u8], place: Place) -> &[u8]
+    ensures { result.now ≡ text_at texts.now place }
 {
-    let Some(text) = file.get(place..) else {
+    let Some(rest) = texts.get(place.start..) else {
         return &[];
     };
-    let (line, _) = next_line(text);
-    match record_of(line) {
-        Ok(Record::File(_, name)) => name,
-        _ => &[],
-    }
+    let Some(text) = rest.get(..place.length) else {
+        return rest;
+    };
+    text
 }

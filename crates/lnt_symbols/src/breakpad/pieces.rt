@@ -1,21 +1,23 @@
 //! The piece of a line record: what of it lies in its function.
 ghost use Rattle.std.specs.Prelude.{◌≡◌, ◌++◌, ◌≤◌, ◌-◌, ◌^◌, OnOk};
 ghost use Rattle.lnt_symbols.specs.BreakpadAnswers.{end_of};
-ghost use Rattle.lnt_symbols.specs.Pieces.{cut_high, cut_line, cut_low, less};
+ghost use Rattle.lnt_symbols.specs.Pieces.{all_pieces, cut_high, cut_line, cut_low, less};
 
 use crate::breakpad::record::{LineRecord, Range};
 use crate::piece::Piece;
-use std::alloc::AllocError;
+use crate::pieces::Pieces;
+use std::alloc::{AllocError, Global};
 
 /// Adds the piece of a line record in its function, if it has one and the file's address 0 is loaded at `base`.
 #[inline(always)]
 pub(crate) fn add_line(
-    pieces: &mut Vec<Piece>,
+    alloc: Global,
+    pieces: &mut Pieces,
     function: Range,
     line: LineRecord,
     base: u64,
 ) -> Result<(), AllocError>
-    ensures { OnOk result (pieces.new.items ≡ pieces.old.items ++ cut_line base function line) }
+    ensures { OnOk result (all_pieces pieces.new ≡ all_pieces pieces.old ++ cut_line base function line) }
 {
     let low = cut_low(function, line.range);
     let high = cut_high(function, line.range, base);
@@ -26,7 +28,7 @@ pub(crate) fn add_line(
             line: line.line,
             file: line.file,
         };
-        pieces.push(piece)?;
+        pieces.push(alloc, piece)?;
     }
     Ok(())
 }

@@ -7,14 +7,14 @@ use crate::breakpad::kept::KeptRanges;
 use crate::breakpad::names::Names;
 use crate::breakpad::pieces::add_line;
 use crate::breakpad::record::{LineRecord, Range, Record};
-use crate::piece::Piece;
+use crate::pieces::Pieces;
 use std::alloc::{AllocError, Global};
 
 /// What the records up to one come to.
 #[derive(Drop)]
-pub(crate) struct Reading<'a> {
+pub(crate) struct Reading {
     /// The names of files.
-    pub(crate) names: Names<'a>,
+    pub(crate) names: Names,
     /// The kept functions.
     pub(crate) functions: KeptRanges,
     /// The function that goes on, if it's kept.
@@ -22,44 +22,41 @@ pub(crate) struct Reading<'a> {
     /// Its kept line records.
     pub(crate) lines: KeptRanges,
     /// The pieces, in the order of the file. No two have an address in common.
-    pub(crate) pieces: Vec<Piece>,
+    pub(crate) pieces: Pieces,
 }
 
-impl<'a> Reading<'a> {
-    ghost use Rattle.lnt_symbols.specs.Stepping.{HasTaken, SaysAt};
+impl Reading {
+    ghost use Rattle.lnt_symbols.specs.Stepping.{HasTaken};
 
-    /// No record of this file yet. It takes no memory.
+    /// No record yet. It takes no memory.
     #[tactic(auto, using(crate::proofs::ReadingLemmas::taken_none))]
-    pub(crate) fn new(alloc: Global, file: &'a [u8]) -> Reading<'a>
-        ensures file { result.names.file ≡ file.entry }
-        ensures taken { (base : ℕ) → HasTaken base [] result }
+    pub(crate) fn new(alloc: Global) -> Reading
+        ensures { (base : ℕ) → HasTaken base [] result }
     {
         Reading {
-            names: Names::new(alloc, file),
+            names: Names::new(alloc),
             functions: KeptRanges::new(alloc),
             function: None,
             lines: KeptRanges::new(alloc),
-            pieces: Vec::new(alloc),
+            pieces: Pieces::new(alloc),
         }
     }
 
-    /// Takes the next record, which the line at this place says, of a file whose address 0 is loaded at `base`.
+    /// Takes the next record of a file whose address 0 is loaded at `base`.
     #[inline(always)]
     pub(crate) fn take(
         &mut self,
         alloc: Global,
-        said: Record<'a>,
-        place: usize,
+        said: Record<'_>,
         base: u64,
     ) -> Result<(), AllocError>
-        ensures file { self.new.names.file ≡ self.old.names.file }
-        ensures taken { (done : List RecordSaid) → HasTaken base done self.old → SaysAt self.old.names.file.now place (said_of said.entry)
+        ensures { (done : List RecordSaid) → HasTaken base done self.old
             → OnOk result (HasTaken base (done ++ said_of said.entry ∷ []) self.new) }
     {
         match said {
             Record::Line(line) => self.take_line(alloc, line, base),
             Record::Function(range) => self.take_function(alloc, range),
-            Record::File(number, _) => self.names.put_first(number, place),
+            Record::File(number, name) => self.names.put_first(number, name),
             Record::Public => {
                 self.function = None;
                 Ok(())
@@ -81,7 +78,7 @@ impl<'a> Reading<'a> {
         if !self.lines.keep(alloc, line.range)? {
             return Ok(());
         }
-        add_line(&mut self.pieces, function, line, base)
+        add_line(alloc, &mut self.pieces, function, line, base)
     }
 
     // Takes a function.

@@ -1,19 +1,11 @@
-use Rattle.std.proofs.Common.{◌⊎◌, OnErr, subst}
-use Rattle.std.specs.Io.KnownBytes.{Keeps}
-use Rattle.lnt_symbols.specs.SymbolTables.{BeginsPrinted}
-use Rattle.lnt_symbols.proofs.ReadingLemmas.{answers_of_records, printed_so}
+use Rattle.std.proofs.Common.{◌++◌}
+use Rattle.lnt_symbols.proofs.SourceLemmas.{err_if_some, ok_if_some}
 use Rattle.lnt_symbols.proofs.breakpad.print.print_breakpad.Goals as goal
 
-pub returns-in-Ok-clause-printed : goal.returns-in-Ok-clause-printed
-returns-in-Ok-clause-printed g c =
-    let read = c.in-Ok.ensures.ok in
-    printed_so c.args.base c.args.bytes.now read.0 (g.W.Write.contents c.args.out.now) (g.W.Write.contents c.print_reading.new.out)
-    c.print_reading.result read.1 c.print_reading.ensures.done (c.print_reading.ensures.table read.0 read.2)
+pub returns-clause-printed : goal.returns-clause-printed
+returns-clause-printed g c = ok_if_some c.print_read.result (g.R.Source.remaining c.args.file.now) _ (λ more e.
+    c.print_read.ensures.printed (c.args.window ++ more) (rw e at c.read_file.ensures.ok) (rw e at c.read_file.ensures.err))
 
-pub returns-in-Ok-clause-begun : goal.returns-in-Ok-clause-begun
-returns-in-Ok-clause-begun g c =
-    let read = c.in-Ok.ensures.ok in
-    subst (λ answers. OnErr c.print_reading.result (Keeps (g.W.Write.contents c.args.out.now) (g.W.Write.contents c.print_reading.new.out)
-    ⊎ BeginsPrinted answers (g.W.Write.contents c.args.out.now) (g.W.Write.contents c.print_reading.new.out)))
-    (answers_of_records c.args.base c.args.bytes.now read.0 read.1)
-    (c.print_reading.ensures.begun read.0 read.2)
+pub returns-clause-begun : goal.returns-clause-begun
+returns-clause-begun g c = err_if_some c.print_read.result (g.R.Source.remaining c.args.file.now) _ _ (λ more e.
+    c.print_read.ensures.begun (c.args.window ++ more) (rw e at c.read_file.ensures.ok) (rw e at c.read_file.ensures.err))
