@@ -3,8 +3,6 @@ use Rattle.std.specs.Prelude.{◌≡◌, ℕ, List, [], ◌∷◌, Option, Some,
 use Rattle.lnt_wire.specs.Reading.{At}
 use Rattle.lnt_wire.specs.Borrowed.{value_of}
 use Rattle.lnt_header_bytes.specs.Borrowed.{BorrowedTable, borrowed_table, AreEntryBytes}
-use Rattle.lnt_header_bytes.specs.Stepping.{IsLayout}
-use Rattle.lnt_header_bytes.specs.declared.values.Layout.{Layout}
 use Rattle.lnt_header.specs.declared.header.Entry.{Entry}
 use Rattle.lnt_header.specs.declared.header.Pair.{Pair}
 use Rattle.lnt_files.specs.declared.components.Places.{Places}
@@ -50,8 +48,7 @@ abbrev pub left_of : BorrowedTable → ℕ → At → BorrowedTable
 left_of table left at = borrowed_table table.format table.order table.pairs left at.rest
 
 -- a walk is before this many entries, whose bytes remain
-pub record IsWalk (table : BorrowedTable) (layout : Layout) (places : Places) (left : ℕ) (at : At) : Type 0 where
-  pub layout_is : IsLayout layout table.pairs
+pub record IsWalk (table : BorrowedTable) (places : Places) (left : ℕ) (at : At) : Type 0 where
   pub places_are : ArePlaces places table.pairs
   pub order_is : at.order ≡ table.order
   pub bytes : AreEntryBytes (left_of table left at) at.rest

@@ -4,7 +4,7 @@ ghost use Rattle.lnt_header_bytes.specs.Marks.{from_entry};
 ghost use Rattle.lnt_files.specs.Walks.{EntryStep};
 
 use crate::components::{Places, places_of};
-use lnt_header_bytes::{EntryTableView, Layout, layout_of, read_entry};
+use lnt_header_bytes::{EntryTableView, read_entry};
 use lnt_wire::{Cursor, ValueView};
 use std::marker::Model;
 
@@ -26,7 +26,6 @@ pub(crate) struct EntryView<'a> {
 #[derive(Drop)]
 pub(crate) struct Entries<'t> {
     table: &'t EntryTableView<'t>,
-    layout: Layout,
     places: Places,
     left: u64,
     cursor: Cursor<'t>,
@@ -40,7 +39,7 @@ impl<'t> Model for Entries<'t> {
 
     ghost view = { λ w. left_of w.table.now w.left w.cursor };
 
-    ghost invariant = { λ w. IsWalk w.table.now w.layout w.places w.left w.cursor };
+    ghost invariant = { λ w. IsWalk w.table.now w.places w.left w.cursor };
 }
 
 impl<'t> Entries<'t> {
@@ -52,7 +51,6 @@ impl<'t> Entries<'t> {
         let pairs = table.pairs();
         Entries {
             table,
-            layout: layout_of(pairs),
             places: places_of(pairs),
             left: table.count(),
             cursor: table.cursor(),
@@ -71,7 +69,6 @@ impl<'t> Entries<'t> {
         let pairs = table.pairs();
         let entries = Entries {
             table,
-            layout: layout_of(pairs),
             places: places_of(pairs),
             left: table.count() - first,
             cursor,
@@ -95,14 +92,7 @@ impl<'t> Entries<'t> {
             directory: None,
             sum: None,
         };
-        let Ok(()) = read_entry(
-            &mut self.cursor,
-            format,
-            pairs,
-            self.layout,
-            &self.places,
-            &mut entry,
-        ) else {
+        let Ok(()) = read_entry(&mut self.cursor, format, pairs, &self.places, &mut entry) else {
             unreachable!()
         };
         self.left -= 1;

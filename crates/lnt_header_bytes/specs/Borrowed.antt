@@ -17,10 +17,6 @@ use Rattle.lnt_header_bytes.specs.TableBytes.{EntryBytes}
 
 -- ---- the forms of a table's pairs, and the entry of some values
 
--- the forms of the pairs
-abbrev pub forms_of : List Pair → List Form
-forms_of pairs = map (λ pair. pair.form) pairs
-
 -- the entry of these values
 abbrev pub entry_of : List FormValue → Entry
 entry_of values = record { values = values }

@@ -1,22 +1,19 @@
 -- What the bodies of this crate say of one step: of a reader of tables, and of what keeps their entries. Bodies of
--- lnt_dump pass over values too. Public contracts speak of layouts alone.
+-- lnt_dump pass over values too. No public contract speaks of it.
 use Rattle.std.specs.Prelude.{◌≤◌, length, take, drop, ◌≡◌, ℕ, List, [], ◌∷◌, ◌++◌}
 use Rattle.lnt_header.specs.Parts.{HeaderParts}
-use Rattle.lnt_header_bytes.specs.Borrowed.{entry_of, header_over, IsHeaderOver, NumbersAndFormats, forms_of, BorrowedTable, borrowed_table}
+use Rattle.lnt_header_bytes.specs.Borrowed.{entry_of, header_over, IsHeaderOver, NumbersAndFormats, BorrowedTable, borrowed_table}
 use Rattle.lnt_header_bytes.specs.Borrowed.{AreEntryBytes}
 use Rattle.lnt_header_bytes.specs.Marks.{AreMarksOver}
 use Rattle.lnt_header_bytes.specs.declared.kept.KeptEntries.{KeptEntries}
 use Rattle.lnt_wire.specs.declared.format.Order.{Order}
 use Rattle.lnt_wire.specs.declared.format.Format.{Format}
 use Rattle.lnt_wire.specs.declared.form.Form.{Form}
-use Rattle.lnt_wire.specs.declared.form.Form.TheVariants.{LineStrp, Udata, Data16}
 use Rattle.lnt_wire.specs.declared.form.FormValue.{FormValue}
 use Rattle.lnt_wire.specs.FormBytes.{ValueBytes}
 use Rattle.lnt_wire.specs.Reading.{At, Reads}
 use Rattle.lnt_header.specs.declared.header.Pair.{Pair}
 use Rattle.lnt_header_bytes.specs.declared.numbers.Singles.{Singles}
-use Rattle.lnt_header_bytes.specs.declared.values.Layout.{Layout}
-use Rattle.lnt_header_bytes.specs.declared.values.Layout.TheVariants.{Path, IndexedPath, SummedPath, Other}
 use Rattle.lnt_header_bytes.specs.declared.read_table.EntryTableRead.{EntryTableRead}
 use Rattle.lnt_header_bytes.specs.FieldsBytes.{FieldsBytes}
 use Rattle.lnt_header.specs.Joins.{Each}
@@ -73,15 +70,6 @@ pub record AreFieldsRead (format : Format) (singles : Singles) (lengths : List �
       ),
     ),
   ) old new
-
--- ---- layouts
-
--- the pairs have the layout
-abbrev pub IsLayout : Layout → List Pair → Type 0
-IsLayout Path pairs = forms_of pairs ≡ LineStrp ∷ []
-IsLayout IndexedPath pairs = forms_of pairs ≡ LineStrp ∷ Udata ∷ []
-IsLayout SummedPath pairs = forms_of pairs ≡ LineStrp ∷ Udata ∷ Data16 ∷ []
-IsLayout Other pairs = Unit {0}
 
 -- The read gave the next value of an entry, after so many others, and what is kept of those and of this one.
 pub record KeepsNext (format : Format) (form : Form) (count : ℕ) (Before After : List FormValue → Type 0) (old new : At) : Type 0 where

@@ -28,4 +28,4 @@ pub use numbers::read_lengths;
 pub use read_table::EntriesInPlace;
 pub use start::read_counted;
 pub use table_view::EntryTableView;
-pub use values::{KeepsValues, Layout, layout_of, read_entry};
+pub use values::{KeepsValues, read_entry};

@@ -6,7 +6,7 @@ ghost use Rattle.lnt_header_bytes.specs.TableBytes.{EntryBytes};
 ghost use Rattle.lnt_header_bytes.specs.TableFaults.{IsEntriesFault};
 ghost use Rattle.lnt_wire.specs.Reading.{Refuses};
 
-use crate::values::{layout_of, read_entry};
+use crate::values::read_entry;
 use lnt_header::Pair;
 use lnt_wire::{Cursor, Fault, Format};
 
@@ -24,9 +24,8 @@ pub(crate) fn pass_entries<'a>(
         (Several count (EntryBytes format cursor.old.order pairs.now)) cursor.old fault) }
 {
     let all = cursor.rest();
-    let layout = layout_of(pairs);
     for _ in 0..count {
-        read_entry(cursor, format, pairs, layout, &(), &mut ())?;
+        read_entry(cursor, format, pairs, &(), &mut ())?;
     }
     let (bytes, _) = all.split_at(all.len() - cursor.rest().len());
     Ok(bytes)

@@ -1,46 +1,14 @@
 //! The values of an entry (DWARF 5, section 6.2.4.1), read one after another, and what is kept of them.
-//!
-//! Entries in the layouts that compilers write are read without a match on each form: 0.97 to 0.99 of the instructions of `verify`.
 ghost use Rattle.std.specs.Prelude.{[], IfErr, OnOk};
 ghost use Rattle.lnt_wire.specs.FormBytes.{ValueBytes};
 ghost use Rattle.lnt_wire.specs.FormFaults.{IsValueFault};
 ghost use Rattle.lnt_wire.specs.Reading.{Refuses, RefusesField};
-ghost use Rattle.lnt_header_bytes.specs.Stepping.{IsLayout, KeepsNext, KeepsEntry};
+ghost use Rattle.lnt_header_bytes.specs.Stepping.{KeepsNext, KeepsEntry};
 ghost use Rattle.lnt_header_bytes.specs.TableBytes.{EntryBytes};
 ghost use Rattle.lnt_header_bytes.specs.TableFaults.{IsEntryFault};
 
 use lnt_header::Pair;
 use lnt_wire::{Cursor, Fault, Form, Format, ValueView};
-
-/// The forms of the entries of a table. A layout doesn't fix the content types; its name says what compilers use it for.
-#[derive(Clone, Copy)]
-pub enum Layout {
-    /// A `LineStrp`: a path in `.debug_line_str`.
-    Path,
-    /// The same, and a `Udata`: the index of a directory.
-    IndexedPath,
-    /// The same, and a `Data16`: an MD5 sum.
-    SummedPath,
-    /// Any forms, including those above.
-    Other,
-}
-
-/// The layout of entries with these pairs.
-pub fn layout_of(pairs: &[Pair]) -> Layout
-    ensures { IsLayout result pairs.now }
-{
-    match pairs {
-        [path] if path.form == Form::LineStrp => Layout::Path,
-        [path, directory] if path.form == Form::LineStrp && directory.form == Form::Udata => {
-            Layout::IndexedPath
-        }
-        [path, directory, sum]
-            if path.form == Form::LineStrp
-                && directory.form == Form::Udata
-                && sum.form == Form::Data16 => { Layout::SummedPath }
-        _ => Layout::Other,
-    }
-}
 
 /// Keeps something of the values of an entry. Contracts see by `has_kept` whether what is kept is what it should be of some values.
 pub trait KeepsValues<'a> {
@@ -77,29 +45,18 @@ pub fn read_entry<'a, K: KeepsValues<'a>>(
     cursor: &mut Cursor<'a>,
     format: Format,
     pairs: &[Pair],
-    layout: Layout,
     keeper: &K,
     kept: &mut K::Kept,
 ) -> Result<(), Fault>
-    requires layout { IsLayout layout pairs.now }
-    requires none { K.has_kept keeper.now kept.old [] }
+    requires { K.has_kept keeper.now kept.old [] }
     ensures ok { OnOk result (KeepsEntry format pairs.now (K.has_kept keeper.now kept.new) cursor.old cursor.new) }
     ensures err { IfErr result (λ fault. Refuses (IsEntryFault format cursor.old.order pairs.now)
         (EntryBytes format cursor.old.order pairs.now) cursor.old fault) }
 {
-    match layout {
-        Layout::Path => read_value(cursor, format, Form::LineStrp, keeper, kept, 0),
-        Layout::IndexedPath => {
-            read_value(cursor, format, Form::LineStrp, keeper, kept, 0)?;
-            read_value(cursor, format, Form::Udata, keeper, kept, 1)
-        }
-        Layout::SummedPath => {
-            read_value(cursor, format, Form::LineStrp, keeper, kept, 0)?;
-            read_value(cursor, format, Form::Udata, keeper, kept, 1)?;
-            read_value(cursor, format, Form::Data16, keeper, kept, 2)
-        }
-        Layout::Other => read_values(cursor, format, pairs, keeper, kept),
+    for (index, pair) in pairs.iter().enumerate() {
+        read_value(cursor, format, pair.form, keeper, kept, index)?;
     }
+    Ok(())
 }
 
 // Moves past the next value, the one with this index in its entry, and keeps what the keeper needs of it.
@@ -119,26 +76,5 @@ fn read_value<'a, K: KeepsValues<'a>>(
 {
     let value = cursor.value(form, format)?;
     keeper.keep(kept, index, value);
-    Ok(())
-}
-
-// Moves past the next entry, of any forms, and keeps what the keeper needs of its values.
-#[inline(never)]
-#[tactic(auto, using(crate::proofs::EntryValueLemmas::read_values_lemmas))]
-fn read_values<'a, K: KeepsValues<'a>>(
-    cursor: &mut Cursor<'a>,
-    format: Format,
-    pairs: &[Pair],
-    keeper: &K,
-    kept: &mut K::Kept,
-) -> Result<(), Fault>
-    requires { K.has_kept keeper.now kept.old [] }
-    ensures ok { OnOk result (KeepsEntry format pairs.now (K.has_kept keeper.now kept.new) cursor.old cursor.new) }
-    ensures err { IfErr result (λ fault. Refuses (IsEntryFault format cursor.old.order pairs.now)
-        (EntryBytes format cursor.old.order pairs.now) cursor.old fault) }
-{
-    for (index, pair) in pairs.iter().enumerate() {
-        read_value(cursor, format, pair.form, keeper, kept, index)?;
-    }
     Ok(())
 }

@@ -6,7 +6,7 @@ ghost use Rattle.lnt_older.specs.OlderBytes.{BeginsEntry, ListBytes};
 
 use lnt_header::Pair;
 use lnt_header::content::{DIRECTORY_INDEX, PATH, SIZE, TIMESTAMP};
-use lnt_header_bytes::{EntriesInPlace, Layout, read_entry};
+use lnt_header_bytes::{EntriesInPlace, read_entry};
 use lnt_wire::{Cursor, Fault, Form, Format};
 
 macro_rules! pair {
@@ -48,7 +48,7 @@ pub fn pass_listed<'a>(
     let all = cursor.rest();
     let mut count = 0;
     while is_listed(cursor) {
-        read_entry(cursor, format, pairs, Layout::Other, &(), &mut ())?;
+        read_entry(cursor, format, pairs, &(), &mut ())?;
         count += 1;
     }
     let (bytes, _) = all.split_at(all.len() - cursor.rest().len());

@@ -12,7 +12,7 @@ ghost use Rattle.lnt_older.specs.declared.version.OlderVersion.TheVariants.{Four
 use crate::header::OlderHeader;
 use crate::lists::FILE_PAIRS;
 use crate::unit::OlderUnit;
-use lnt_header_bytes::{EntriesInPlace, Layout, add_around, add_both, read_entry};
+use lnt_header_bytes::{EntriesInPlace, add_around, add_both, read_entry};
 use lnt_wire::{Cursor, EncodeFault, Format, Order, append_uleb};
 use std::alloc::{AllocError, Global};
 
@@ -146,14 +146,7 @@ fn file_zero<'a>(listed: EntriesInPlace<'a>, format: Format, order: Order) -> &'
         return listed.bytes;
     }
     let mut cursor = Cursor::new(listed.bytes, 0, order);
-    match read_entry(
-        &mut cursor,
-        format,
-        &FILE_PAIRS,
-        Layout::Other,
-        &(),
-        &mut (),
-    ) {
+    match read_entry(&mut cursor, format, &FILE_PAIRS, &(), &mut ()) {
         Ok(()) => {
             let (first, _) = listed
                 .bytes

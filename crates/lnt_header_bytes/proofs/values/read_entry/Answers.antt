@@ -1,6 +1,6 @@
 use Rattle.std.proofs.lemmas.Result.{err_from_is_err_and}
 use Rattle.lnt_header_bytes.proofs.EntryValueLemmas.{value_refused}
-use Rattle.lnt_header_bytes.proofs.values.read_values.Goals as goal
+use Rattle.lnt_header_bytes.proofs.values.read_entry.Goals as goal
 
 pub returns-in_err-read_value-clause-err : goal.returns-in_err-read_value-clause-err
 returns-in_err-read_value-clause-err g c =
