@@ -7,7 +7,7 @@ use Rattle.lnt_answers.specs.declared.digest.Agreement.TheVariants.{Same, Differ
 use Rattle.std.specs.List.{AllByRecursion, flat_map}
 use Rattle.std.specs.Option.{option_map_or}
 use Rattle.std.specs.Io.KnownBytes.{Appends}
-use Rattle.lnt_io.specs.Files.{FileState, Readable, Unread, Unreadable}
+use Rattle.lnt_io.specs.Files.{FileState, IsUnreadFile, Readable}
 use Rattle.lnt_io.specs.Prefixes.{AppendsPrefix}
 use Rattle.hex.specs.Hex.{encode_lower}
 use Rattle.md5.specs.Md5.{md5}
@@ -57,7 +57,7 @@ file_of finding = (finding.unit, finding.file)
 
 -- No file is read at this path: it isn't UTF-8; or it is `-`; or the file can't be opened, or can't be read whole.
 abbrev pub IsUnreadable : (List ℕ → FileState → Type 0) → List ℕ → Type 0
-IsUnreadable finds path = (IsUtf8 path → ⊥) ⊎ (path ≡ codes "-") ⊎ finds path Unreadable ⊎ finds path Unread
+IsUnreadable finds path = (IsUtf8 path → ⊥) ⊎ (path ≡ codes "-") ⊎ IsUnreadFile (finds path)
 
 -- What was found is true of the file at this path, for which this sum is listed. An agreement is true of the file's bytes, if they
 -- are known; with `None` the file is unreadable.

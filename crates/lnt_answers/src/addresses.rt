@@ -47,6 +47,7 @@ pub fn print_addresses<T: Source, W: Write>(
         (W.contents out.old) (W.contents out.new) status) }
     ensures begun { OnErr result (AreAddressesBegun index.now op (T.remaining lines.old) (W.contents out.old) (W.contents out.new)) }
     ensures read { IsErrOf result io_stop.Read → T.failures lines.new ≡ T.failures lines.old + 1 }
+    ensures name { T.name lines.new ≡ T.name lines.old }
     ensures too_long { IsTooLongOn ⟦<T as Source>⟧ lines.old lines.new result io_stop.TooLong }
 {
     // Of the size of a file's buffer, so that a pull is one read.

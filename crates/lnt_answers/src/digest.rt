@@ -31,7 +31,6 @@ pub fn sum_of<R: Source>(source: &mut R) -> Result<[u8; 16], Stop>
     ensures failures { CountsFailure ⟦<R as Source>⟧ source.old source.new result Stop.Read }
     ensures too_long { IsTooLongOn ⟦<R as Source>⟧ source.old source.new result Stop.TooLong }
     ensures no_memory { IsErrOf result Stop.Memory → ⊥ }
-    ensures name { R.name source.new ≡ R.name source.old }
 {
     let mut hasher = Md5::new();
     let mut block = [0; BLOCK];
@@ -63,7 +62,6 @@ pub fn md5_agrees<R: Source>(source: &mut R, listed: &[u8; 16]) -> Result<Agreem
     ensures failures { CountsFailure ⟦<R as Source>⟧ source.old source.new result Stop.Read }
     ensures too_long { IsTooLongOn ⟦<R as Source>⟧ source.old source.new result Stop.TooLong }
     ensures no_memory { IsErrOf result Stop.Memory → ⊥ }
-    ensures name { R.name source.new ≡ R.name source.old }
 {
     let sum = sum_of(source)?;
     if sum == *listed {

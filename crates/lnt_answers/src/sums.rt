@@ -34,6 +34,7 @@ pub fn print_sums<O: Files, W: Write>(
     out: &mut W,
 ) -> Result<Status, IoStop>
     ensures err { IfErr result IsPrinting }
+    ensures later { FindsNoMore (O.finds opener.old) (O.finds opener.new) }
     ensures sums { IfOk result (λ status. AreSumsPrinted (O.finds opener.old) index.now (listed_files index.now)
         (W.contents out.old) (W.contents out.new) status) }
     ensures begun { OnErr result (AreSumsBegun (O.finds opener.old) index.now (listed_files index.now)
@@ -59,7 +60,7 @@ fn print_unit_sums<O: Files, W: Write>(
     out: &mut W,
 ) -> Result<Status, IoStop>
     ensures err { IfErr result IsPrinting }
-    ensures later { OnOk result (FindsNoMore (O.finds opener.old) (O.finds opener.new)) }
+    ensures later { FindsNoMore (O.finds opener.old) (O.finds opener.new) }
     ensures sums { IfOk result (λ status. AreSumsPrinted (O.finds opener.old) index.now (listed_in index.now unit)
         (W.contents out.old) (W.contents out.new) status) }
     ensures begun { OnErr result (AreSumsBegun (O.finds opener.old) index.now (listed_in index.now unit)
@@ -87,7 +88,7 @@ fn print_sum<O: Files, W: Write>(
 ) -> Result<Status, IoStop>
     requires { file < file_count_in index.now unit }
     ensures err { IfErr result IsPrinting }
-    ensures later { OnOk result (FindsNoMore (O.finds opener.old) (O.finds opener.new)) }
+    ensures later { FindsNoMore (O.finds opener.old) (O.finds opener.new) }
     ensures sum { IfOk result (λ status. AreSumsPrinted (O.finds opener.old) index.now (listed_at index.now unit file)
         (W.contents out.old) (W.contents out.new) status) }
     ensures begun { OnErr result (AreSumsBegun (O.finds opener.old) index.now (listed_at index.now unit file)
@@ -98,7 +99,7 @@ fn print_sum<O: Files, W: Write>(
         return Ok(Status::Done);
     };
     let path = file_path(alloc, index, unit, file)?;
-    let found = found_of(&path, &listed, opener);
+    let found = found_of(alloc, &path, &listed, opener)?;
     room.clear();
     put_found(alloc, unit, file, &path, found, room)?;
     write_whole(out, room.as_slice())?;
@@ -106,21 +107,32 @@ fn print_sum<O: Files, W: Write>(
 }
 
 // Whether the file at the path has the sum. `None` if it can't be read.
-fn found_of<O: Files>(path: &[u8], listed: &[u8; 16], opener: &mut O) -> Option<Agreement>
+fn found_of<O: Files>(
+    alloc: Global,
+    path: &[u8],
+    listed: &[u8; 16],
+    opener: &mut O,
+) -> Result<Option<Agreement>, AllocError>
     ensures later { FindsNoMore (O.finds opener.old) (O.finds opener.new) }
-    ensures found { IsTrueOfFile (O.finds opener.old) path.now listed.now result }
+    ensures found { IfOk result (IsTrueOfFile (O.finds opener.old) path.now listed.now) }
     ensures opened { OpensOnly (λ name. (path.now ≡ name) × (name ≢ codes "-")) (O.opens opener.old) (O.opens opener.new) }
 {
-    let name = str::from_utf8(path).ok()?;
+    let Ok(name) = str::from_utf8(path) else {
+        return Ok(None);
+    };
     if name == "-" || !opener.is_regular(name) {
-        return None;
+        return Ok(None);
     }
-    let mut file = OpenedFile::open(opener, name)?;
+    let mut file = match OpenedFile::open(alloc, opener, name, ()) {
+        Ok(file) => file,
+        Err(IoStop::Memory) => return Err(AllocError),
+        Err(_) => return Ok(None),
+    };
     match md5_agrees(&mut file, listed) {
-        Ok(agreement) => Some(agreement),
+        Ok(agreement) => Ok(Some(agreement)),
         Err(_) => {
             opener.could_not_read(&file);
-            None
+            Ok(None)
         }
     }
 }

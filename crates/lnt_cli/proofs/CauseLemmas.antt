@@ -1,28 +1,34 @@
 -- Which files stops name, and why.
-use Rattle.std.proofs.Common.{◌≡◌, ◌+◌, ◌^◌, ◌<◌, IsTrue, ℕ, Bool, List, Option, subst, refl, string_bytes, ◌⊎◌, inl, inr}
-use Rattle.std.proofs.Common.{Result, Ok, Err, IfErr, false, true}
-use Rattle.lnt_io.specs.Files.{FileState, FindsNoMore, IsTooLongFile, Readable}
+use Rattle.std.proofs.Common.{◌≡◌, ◌+◌, ◌∙◌, ◌^◌, ◌<◌, ℕ, Bool, List, Option, subst, refl, string_bytes, ◌⊎◌, inl, inr}
+use Rattle.std.proofs.Common.{Result, Ok, Err, IfErr, arith, false, true}
+use Rattle.lnt_io.specs.Files.{FileState, FindsNoMore, IsTooLongFile, IsUnreadFile, Readable, Unread, Unreadable}
 use Rattle.lnt_io.specs.Pulling.{HasMoreThan}
 use Rattle.lnt_io.specs.Stopping.{IsFoundTooLong}
+use Rattle.lnt_io.specs.declared.source.Source.{Ghosts}
 use Rattle.lnt_words.specs.declared.request.FileQuestion.{FileQuestion}
 use Rattle.lnt_words.specs.declared.request.FileQuestion.TheVariants.{Check, Lines}
 use Rattle.lnt_words.specs.declared.request.Judging.{Judging}
-use Rattle.lnt_cli.specs.Stops.{IsFileOfBoth, IsLongWith, IsOfCause, IsOneTooLong}
-use Rattle.lnt_cli.specs.Stops.{NamesOneOf, TellsLong}
+use Rattle.lnt_cli.specs.Stops.{FailedOnce, HasFailed, IsCausedBy, IsCausedByEither, IsCausedInCheck, IsCausedWith, IsFileOfBoth}
+use Rattle.lnt_cli.specs.Stops.{IsLongWith, IsOneTooLong, NamesOneOf, TellsCause, TellsFile}
 use Rattle.lnt_cli.specs.declared.stop.FileStop.{FileStop}
 use Rattle.lnt_cli.specs.declared.stop.FileStop.TheVariants.{Read, TooLong, Write, Memory}
 
--- ---- files that are told as too long
+-- ---- files that are told
 
 -- what is known of files later was known before
+unread_before : (before later : List ℕ → FileState → Type 0) (name : List ℕ) → FindsNoMore before later
+    → IsUnreadFile (later name) → IsUnreadFile (before name)
+unread_before before later name less (inl closed) = inl (less name Unreadable closed)
+unread_before before later name less (inr cut) = inr (less name Unread cut)
+
 long_before : (before later : List ℕ → FileState → Type 0) (name : List ℕ) → FindsNoMore before later
     → IsTooLongFile (later name) → IsTooLongFile (before name)
 long_before before later name less long =
     record { found = long.found; is_found = less name (Readable long.found) long.is_found; more = long.more }
 
 pub told_before : (before later : List ℕ → FileState → Type 0) (stop : FileStop) → FindsNoMore before later
-    → TellsLong (λ name. IsTooLongFile (later name)) stop → TellsLong (λ name. IsTooLongFile (before name)) stop
-told_before before later (Read file) less told = tt
+    → TellsFile later stop → TellsFile before stop
+told_before before later (Read file) less told = unread_before before later (string_bytes file) less told
 told_before before later (TooLong file) less told = long_before before later (string_bytes file) less told
 told_before before later Write less told = tt
 told_before before later Memory less told = tt
@@ -32,6 +38,45 @@ pub long_found : (finds : FileState → Type 0) (found : Bool) (remaining : Opti
     → left ≡ 2 ^ 40 → IsFoundTooLong found remaining left → IsTooLongFile finds
 long_found finds found remaining left is_found whole long =
     record { found = remaining; is_found = is_found; more = subst (λ (count : ℕ). HasMoreThan remaining count) whole long.more }
+
+-- a file whose source failed: the name of the source before the work (was) and after it (is), and how often it failed after it
+pub has_failed : (finds : List ℕ → FileState → Type 0) (file was is : List ℕ) (fails : ℕ) → 0 < fails → is ≡ was → was ≡ file
+    → (0 < fails → finds is Unread) → IsUnreadFile (finds file)
+has_failed finds file was is fails failed kept named unread =
+    inr (subst (λ (name : List ℕ). finds name Unread) (kept ∙ named) (unread failed))
+
+-- the same of one that failed once more than before
+pub failed_once : (finds : List ℕ → FileState → Type 0) (file was is : List ℕ) (before fails : ℕ) → fails ≡ before + 1 → is ≡ was
+    → was ≡ file → (0 < fails → finds is Unread) → IsUnreadFile (finds file)
+failed_once finds file was is before fails once kept named unread =
+    has_failed finds file was is fails (omega (arith, once)) kept named unread
+
+-- The source of the file with this name before the work on it (old) and after it (new).
+pub record IsOpenOn {R : Type 0} (finds : List ℕ → FileState → Type 0) (file : List ℕ) (source : Ghosts R) (old new : R) : Type 0 where
+  pub name : source.name old ≡ file
+  pub found : finds file (Readable (source.remaining old))
+  pub left : source.left old ≡ 2 ^ 40
+  pub unread : 0 < source.failures new → finds (source.name new) Unread
+
+once_told : {R : Type 0} (finds : List ℕ → FileState → Type 0) (file told : List ℕ) (source : Ghosts R) (old new : R)
+    → IsOpenOn finds file source old new → FailedOnce source old new file told → IsUnreadFile (finds told)
+once_told finds file told source old new opened failed =
+    rw (← failed.named) (failed_once finds file (source.name old) (source.name new) (source.failures old) (source.failures new) failed.once
+    failed.same opened.name opened.unread)
+
+long_told : {R : Type 0} (finds : List ℕ → FileState → Type 0) (file told : List ℕ) (source : Ghosts R) (old new : R)
+    → IsOpenOn finds file source old new → file ≡ told → IsFoundTooLong (source.too_long new) (source.remaining old) (source.left old)
+    → IsTooLongFile (finds told)
+long_told finds file told source old new opened named long =
+    rw (← named) (long_found (finds file) (source.too_long new) (source.remaining old) (source.left old) opened.found opened.left long)
+
+pub told_by_source : {R : Type 0} (finds : List ℕ → FileState → Type 0) (file : List ℕ) (source : Ghosts R) (old new : R) (stop : FileStop)
+    → IsCausedBy source old new file stop → IsOpenOn finds file source old new → TellsFile finds stop
+told_by_source finds file source old new (Read name) cause opened = once_told finds file (string_bytes name) source old new opened cause
+told_by_source finds file source old new (TooLong name) cause opened =
+    long_told finds file (string_bytes name) source old new opened cause.0 cause.1
+told_by_source finds file source old new Write cause opened = tt
+told_by_source finds file source old new Memory cause opened = tt
 
 -- ---- a section and another file
 
@@ -45,28 +90,12 @@ long_with finds from file (Lines op) name is_one long = long
 
 -- A file that was told when both were opened.
 pub told_with : (finds : List ℕ → FileState → Type 0) (from : Judging) (file : List ℕ) (question : FileQuestion) (stop : FileStop)
-    → NamesOneOf (IsFileOfBoth from file) stop → TellsLong (λ name. IsTooLongFile (finds name)) stop
-    → TellsLong (IsLongWith finds from file question) stop
-told_with finds from file question (Read name) named told = tt
+    → NamesOneOf (IsFileOfBoth from file) stop → TellsFile finds stop → TellsCause finds (IsLongWith finds from file question) stop
+told_with finds from file question (Read name) named told = told
 told_with finds from file question (TooLong name) named told =
     long_with finds from file question (string_bytes name) (named (string_bytes name) refl) told
 told_with finds from file question Write named told = tt
 told_with finds from file question Memory named told = tt
-
--- of two sources one was found too long
-pub one_found : (finds : List ℕ → FileState → Type 0) (from : Judging) (file : List ℕ) (first second : Bool)
-    (section text : Option (List ℕ)) (one other : ℕ) → finds from.section.now (Readable section) → finds file (Readable text)
-    → one ≡ 2 ^ 40 → other ≡ 2 ^ 40 → IsFoundTooLong first section one ⊎ IsFoundTooLong second text other
-    → IsOneTooLong finds (IsFileOfBoth from file)
-one_found finds from file first second section text one other of_section of_text whole all (inl long) = record {
-  name = from.section.now;
-  is_one = inl (inl refl);
-  is_long = long_found (finds from.section.now) first section one of_section whole long;
-}
-one_found finds from file first second section text one other of_section of_text whole all (inr long) =
-    record { name = file; is_one = inr refl; is_long = long_found (finds file) second text other of_text all long }
-
--- ---- files that are told by what caused the stop
 
 -- what is so of each stop
 pub of_stop : {V : Type 0} {IsSo : FileStop → Type 0} (IsThen : FileStop → Type 0) (ended : Result V FileStop) → IfErr ended IsSo
@@ -74,40 +103,62 @@ pub of_stop : {V : Type 0} {IsSo : FileStop → Type 0} (IsThen : FileStop → T
 of_stop IsThen (Ok value) so then = tt
 of_stop IsThen (Err stop) so then = then stop so
 
--- the stop of a check, whose sources are those of these files
-pub told_in_check : (finds : List ℕ → FileState → Type 0) (from : Judging) (file : List ℕ) (failed unread : ℕ) (first second : Bool)
-    (section text : Option (List ℕ)) (one other : ℕ) → finds from.section.now (Readable section) → finds file (Readable text)
-    → one ≡ 2 ^ 40 → other ≡ 2 ^ 40 → (stop : FileStop)
-    → IsOfCause (λ told. ((told ≡ from.section.now) × (0 < failed)) ⊎ ((told ≡ file) × (0 < unread)))
-    (λ told. (((told ≡ from.section.now) × IsTrue first) ⊎ ((told ≡ file) × IsTrue second))
-    × (IsFoundTooLong first section one ⊎ IsFoundTooLong second text other)) stop
-    → TellsLong (λ name. IsOneTooLong finds (IsFileOfBoth from file)) stop
-told_in_check finds from file failed unread first second section text one other of_section of_text whole all (Read name) cause = tt
-told_in_check finds from file failed unread first second section text one other of_section of_text whole all (TooLong name) cause =
-    one_found finds from file first second section text one other of_section of_text whole all cause.1
-told_in_check finds from file failed unread first second section text one other of_section of_text whole all Write cause = tt
-told_in_check finds from file failed unread first second section text one other of_section of_text whole all Memory cause = tt
+-- of two sources one was found too long
+one_found : {R T : Type 0} (finds : List ℕ → FileState → Type 0) (from : Judging) (file : List ℕ) (first : Ghosts R) (old new : R)
+    (second : Ghosts T) (was is : T) → IsOpenOn finds from.section.now first old new → IsOpenOn finds file second was is
+    → IsFoundTooLong (first.too_long new) (first.remaining old) (first.left old)
+    ⊎ IsFoundTooLong (second.too_long is) (second.remaining was) (second.left was) → IsOneTooLong finds (IsFileOfBoth from file)
+one_found finds from file first old new second was is one other (inl long) = record {
+  name = from.section.now;
+  is_one = inl (inl refl);
+  is_long = long_told finds from.section.now from.section.now first old new one refl long;
+}
+one_found finds from file first old new second was is one other (inr long) =
+    record { name = file; is_one = inr refl; is_long = long_told finds file file second was is other refl long }
 
--- the file that a stop names, whose source was found too long
-long_named : (finds : List ℕ → FileState → Type 0) (file told : List ℕ) (found : Bool) (bytes : Option (List ℕ)) (left : ℕ)
-    → finds file (Readable bytes) → left ≡ 2 ^ 40 → (file ≡ told) × IsFoundTooLong found bytes left → IsTooLongFile (finds told)
-long_named finds file told found bytes left is_found whole long =
-    subst (λ (name : List ℕ). IsTooLongFile (finds name)) long.0 (long_found (finds file) found bytes left is_found whole long.1)
+-- one of them has failed
+failed_told : {R : Type 0} (finds : List ℕ → FileState → Type 0) (file told : List ℕ) (source : Ghosts R) (old new : R)
+    → IsOpenOn finds file source old new → HasFailed source old new file told → IsUnreadFile (finds told)
+failed_told finds file told source old new opened failed =
+    rw failed.named (has_failed finds file (source.name old) (source.name new) (source.failures new) failed.some failed.same opened.name
+    opened.unread)
 
--- the same where the stop names the one of both that was found too long
-pub told_by_either : (finds : List ℕ → FileState → Type 0) (section file : List ℕ) (failed fails unread reads : ℕ) (first second : Bool)
-    (bytes text : Option (List ℕ)) (one other : ℕ) → finds section (Readable bytes) → finds file (Readable text)
-    → one ≡ 2 ^ 40 → other ≡ 2 ^ 40 → (stop : FileStop)
-    → IsOfCause (λ told. ((section ≡ told) × (fails ≡ failed + 1)) ⊎ ((file ≡ told) × (reads ≡ unread + 1)))
-    (λ told. ((section ≡ told) × IsFoundTooLong first bytes one) ⊎ ((file ≡ told) × IsFoundTooLong second text other)) stop
-    → TellsLong (λ name. IsTooLongFile (finds name)) stop
-told_by_either finds section file failed fails unread reads first second bytes text one other of_its of_other whole all (Read name) cause =
-    tt
-told_by_either finds section file failed fails unread reads first second bytes text one other of_its of_other whole all (TooLong name)
-    (inl long) =
-    long_named finds section (string_bytes name) first bytes one of_its whole long
-told_by_either finds section file failed fails unread reads first second bytes text one other of_its of_other whole all (TooLong name)
-    (inr long) =
-    long_named finds file (string_bytes name) second text other of_other all long
-told_by_either finds section file failed fails unread reads first second bytes text one other of_its of_other whole all Write cause = tt
-told_by_either finds section file failed fails unread reads first second bytes text one other of_its of_other whole all Memory cause = tt
+-- the stop of a check
+told_in_check : {R T : Type 0} (finds : List ℕ → FileState → Type 0) (from : Judging) (file : List ℕ) (first : Ghosts R) (old new : R)
+    (second : Ghosts T) (was is : T) (stop : FileStop) → IsCausedInCheck first old new from.section.now second was is file stop
+    → IsOpenOn finds from.section.now first old new → IsOpenOn finds file second was is
+    → TellsCause finds (λ name. IsOneTooLong finds (IsFileOfBoth from file)) stop
+told_in_check finds from file first old new second was is (Read name) (inl cause) one other =
+    failed_told finds from.section.now (string_bytes name) first old new one cause
+told_in_check finds from file first old new second was is (Read name) (inr cause) one other =
+    failed_told finds file (string_bytes name) second was is other cause
+told_in_check finds from file first old new second was is (TooLong name) cause one other =
+    one_found finds from file first old new second was is one other cause.1
+told_in_check finds from file first old new second was is Write cause one other = tt
+told_in_check finds from file first old new second was is Memory cause one other = tt
+
+-- the stop of the work on one of both
+told_by_either : {R T : Type 0} (finds : List ℕ → FileState → Type 0) (from : Judging) (file : List ℕ) (first : Ghosts R) (old new : R)
+    (second : Ghosts T) (was is : T) (stop : FileStop) → IsCausedByEither first old new from.section.now second was is file stop
+    → IsOpenOn finds from.section.now first old new → IsOpenOn finds file second was is → TellsFile finds stop
+told_by_either finds from file first old new second was is (Read name) (inl cause) one other =
+    once_told finds from.section.now (string_bytes name) first old new one cause
+told_by_either finds from file first old new second was is (Read name) (inr cause) one other =
+    once_told finds file (string_bytes name) second was is other cause
+told_by_either finds from file first old new second was is (TooLong name) (inl cause) one other =
+    long_told finds from.section.now (string_bytes name) first old new one cause.0 cause.1
+told_by_either finds from file first old new second was is (TooLong name) (inr cause) one other =
+    long_told finds file (string_bytes name) second was is other cause.0 cause.1
+told_by_either finds from file first old new second was is Write cause one other = tt
+told_by_either finds from file first old new second was is Memory cause one other = tt
+
+pub told_by_question : {R T : Type 0} (finds : List ℕ → FileState → Type 0) (from : Judging) (file : List ℕ) (question : FileQuestion)
+    (first : Ghosts R) (old new : R) (second : Ghosts T) (was is : T) (stop : FileStop)
+    → IsCausedWith question first old new from.section.now second was is file stop → IsOpenOn finds from.section.now first old new
+    → IsOpenOn finds file second was is → TellsCause finds (IsLongWith finds from file question) stop
+told_by_question finds from file (Check false ends partial at_least any_copy) first old new second was is stop cause one other =
+    told_in_check finds from file first old new second was is stop cause one other
+told_by_question finds from file (Check true ends partial at_least any_copy) first old new second was is stop cause one other =
+    told_by_either finds from file first old new second was is stop cause one other
+told_by_question finds from file (Lines op) first old new second was is stop cause one other =
+    told_by_either finds from file first old new second was is stop cause one other

@@ -106,15 +106,19 @@ abbrev pub AnswersQuestion : (List ℕ → FileState → Type 0) → Judging →
 AnswersQuestion finds from question old new status =
     IsOfSection finds from (IsJudgedSo false from (AnswersJudged (AnswersGood finds question) old new status))
 
--- The answer to the question about the section and the file with this name was written. It is that of a check, or what a section that
--- is judged says of the file.
+-- The answer to the question about the section and another file, of these bytes, was written. It is that of a check, or what a section
+-- that is judged says of the file.
+abbrev pub AnswersWith : Judging → FileQuestion → Option (List ℕ) → Option (List ℕ) → Status → Option (List ℕ) → List ℕ → List ℕ
+    → Option (List ℕ) → Type 0
+AnswersWith from (Check false ends partial at_least any_copy) old new status bytes line general section =
+    IsChecked from any_copy (scope_in partial) at_least old new status bytes line general section
+AnswersWith from question old new status bytes line general section =
+    IsJudgedSo (asks_copies question) from (AnswersJudged (AnswersGoodFile question bytes) old new status) line general section
+
+-- The answer to the question about the section and the file with this name was written.
 abbrev pub AnswersFile : (List ℕ → FileState → Type 0) → Judging → List ℕ → FileQuestion → Option (List ℕ) → Option (List ℕ) → Status
     → Type 0
-AnswersFile finds from file (Check false ends partial at_least any_copy) old new status =
-    IsOfFile finds from file (IsChecked from any_copy (scope_in partial) at_least old new status)
-AnswersFile finds from file question old new status =
-    IsOfFile finds from file
-    (λ bytes. IsJudgedSo (asks_copies question) from (AnswersJudged (AnswersGoodFile question bytes) old new status))
+AnswersFile finds from file question old new status = IsOfFile finds from file (AnswersWith from question old new status)
 
 -- ---- sections that are read
 

@@ -9,7 +9,7 @@ use Rattle.lnt_words.specs.Words.{AskForNothing, IsAskedBy}
 use Rattle.lnt_words.specs.declared.request.Asked.{Asked}
 use Rattle.lnt_words.specs.declared.request.Request.{Request}
 use Rattle.lnt_cli.specs.Answered.{IsAnswered}
-use Rattle.lnt_cli.specs.Stops.{IsStopped, IsFileIn, IsLongIn, MayAnswerUnreadable, NamesOneOf, TellsLong}
+use Rattle.lnt_cli.specs.Stops.{IsStopped, IsFileIn, IsLongIn, MayAnswerUnreadable, NamesOneOf, TellsCause}
 use Rattle.lnt_cli.specs.declared.stop.CliStop.{CliStop}
 use Rattle.lnt_cli.specs.declared.stop.CliStop.TheVariants.{Usage, Read, TooLong, Write, Memory}
 use Rattle.lnt_cli.specs.declared.stop.FileStop.{FileStop}
@@ -27,11 +27,11 @@ AnswersWords finds words old new status = AskForOne words (λ request. IsAnswere
 abbrev pub NameFile : List (List ℕ) → List ℕ → Type 0
 NameFile words name = AskForOne words (λ request. IsFileIn request name)
 
--- Why the run was stopped, but for words that ask for nothing. A file that can't be read or is too long is one that they name; one that
--- is told as too long is so; and nothing was written, or no more than may be where the answer to their request is stopped.
+-- Why the run was stopped, but for words that ask for nothing. A file that can't be read or is too long is one that they name, and is
+-- so; and nothing was written, or no more than may be where the answer to their request is stopped.
 abbrev pub IsAnswerStop : (List ℕ → FileState → Type 0) → List (List ℕ) → Option (List ℕ) → Option (List ℕ) → FileStop → Type 0
 IsAnswerStop finds words old new stop =
-    NamesOneOf (NameFile words) stop × TellsLong (λ name. AskForOne words (λ request. IsLongIn finds request name)) stop
+    NamesOneOf (NameFile words) stop × TellsCause finds (λ name. AskForOne words (λ request. IsLongIn finds request name)) stop
     × (Keeps old new ⊎ AskForOne words (λ request. IsStopped finds request old new))
 
 -- Why the run was stopped. With Usage the words ask for nothing, and nothing was written.

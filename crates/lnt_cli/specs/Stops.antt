@@ -1,7 +1,7 @@
 -- How a run was stopped, and the files that a request names.
 use Rattle.std.specs.Prelude.{◌≡◌, ◌≢◌, ◌⊎◌, ◌+◌, ◌<◌, ℕ, IfSome, IsErrAnd, IsTrue, List, Option, Result, Some, string_bytes}
 use Rattle.std.specs.Prelude.{Bool, option_copied, false}
-use Rattle.lnt_io.specs.Files.{FileState, IsTooLongFile, Readable, RefusesOnly}
+use Rattle.lnt_io.specs.Files.{FileState, IsTooLongFile, IsUnreadFile, Readable, RefusesOnly}
 use Rattle.lnt_io.specs.Stopping.{IsFoundTooLong}
 use Rattle.lnt_io.specs.declared.source.Source.{Ghosts}
 use Rattle.lnt_io.specs.declared.io_stop.IoStop.{IoStop}
@@ -75,12 +75,21 @@ IsFileIn (Symbols file base) name = file.now ≡ name
 IsFileIn (Judge from question) name = IsFileOf from name
 IsFileIn (JudgeWith from file question) name = IsFileOfBoth from file.now name
 
--- ---- files that are too long
+-- ---- files that couldn't be read, or are too long
 
--- a file that the stop tells as too long is such
-abbrev pub TellsLong : (List ℕ → Type 0) → FileStop → Type 0
-TellsLong IsLong (TooLong file) = IsLong (string_bytes file)
-TellsLong IsLong _ = Unit {0}
+-- The file that a stop tells is one that failed, or one that is too long.
+abbrev pub IsOfCause : (List ℕ → Type 0) → (List ℕ → Type 0) → FileStop → Type 0
+IsOfCause HasFailed IsLong (Read file) = HasFailed (string_bytes file)
+IsOfCause HasFailed IsLong (TooLong file) = IsLong (string_bytes file)
+IsOfCause HasFailed IsLong _ = Unit {0}
+
+-- A file that the stop tells as unreadable can't be opened, or can't be read whole; and one that it tells as too long is such.
+abbrev pub TellsCause : (List ℕ → FileState → Type 0) → (List ℕ → Type 0) → FileStop → Type 0
+TellsCause finds IsLong stop = IsOfCause (λ name. IsUnreadFile (finds name)) IsLong stop
+
+-- the same if the one that is told as too long has more than 2^40 bytes, if its bytes are known
+abbrev pub TellsFile : (List ℕ → FileState → Type 0) → FileStop → Type 0
+TellsFile finds stop = TellsCause finds (λ name. IsTooLongFile (finds name)) stop
 
 -- One of these files has more than 2^40 bytes, if its bytes are known.
 pub record IsOneTooLong (finds : List ℕ → FileState → Type 0) (AreThese : List ℕ → Type 0) : Type 0 where
@@ -133,35 +142,46 @@ IsFileStop io_stop.TooLong name stop = ⊥
 IsFileStop io_stop.Write name stop = stop ≡ Write
 IsFileStop io_stop.Memory name stop = stop ≡ Memory
 
--- The file that a stop names is one that failed, or one that was found too long.
-abbrev pub IsOfCause : (List ℕ → Type 0) → (List ℕ → Type 0) → FileStop → Type 0
-IsOfCause HasFailed IsLong (Read file) = HasFailed (string_bytes file)
-IsOfCause HasFailed IsLong (TooLong file) = IsLong (string_bytes file)
-IsOfCause HasFailed IsLong _ = Unit {0}
+-- One more read of the source failed, which is of the same file as before; and the file that is told (told) is the source's (name).
+pub record FailedOnce {R : Type 0} (source : Ghosts R) (old new : R) (name told : List ℕ) : Type 0 where
+  pub named : name ≡ told
+  pub once : source.failures new ≡ source.failures old + 1
+  pub same : source.name new ≡ source.name old
+
+-- the same of a source that has failed
+pub record HasFailed {R : Type 0} (source : Ghosts R) (old new : R) (name told : List ℕ) : Type 0 where
+  pub named : told ≡ name
+  pub some : 0 < source.failures new
+  pub same : source.name new ≡ source.name old
 
 -- The stop names the source's file (name) for a read of the source that failed, or since it was found too long. The source was
 -- before the work (old) and is after it (new).
 abbrev pub IsCausedBy : {R : Type 0} → Ghosts R → R → R → List ℕ → FileStop → Type 0
-IsCausedBy source old new name stop = IsOfCause
-    (λ file. (name ≡ file) × (source.failures new ≡ source.failures old + 1))
-    (λ file. (name ≡ file) × IsFoundTooLong (source.too_long new) (source.remaining old) (source.left old)) stop
+IsCausedBy source old new name = IsOfCause
+    (FailedOnce source old new name)
+    (λ file. (name ≡ file) × IsFoundTooLong (source.too_long new) (source.remaining old) (source.left old))
 
 -- the same of the work on one source and then on another one
 abbrev pub IsCausedByEither : {R T : Type 0} → Ghosts R → R → R → List ℕ → Ghosts T → T → T → List ℕ → FileStop → Type 0
-IsCausedByEither first old new name second was is other stop = IsOfCause
-    (λ file. ((name ≡ file) × (first.failures new ≡ first.failures old + 1))
-    ⊎ ((other ≡ file) × (second.failures is ≡ second.failures was + 1)))
+IsCausedByEither first old new name second was is other = IsOfCause
+    (λ file. FailedOnce first old new name file ⊎ FailedOnce second was is other file)
     (λ file. ((name ≡ file) × IsFoundTooLong (first.too_long new) (first.remaining old) (first.left old))
-    ⊎ ((other ≡ file) × IsFoundTooLong (second.too_long is) (second.remaining was) (second.left was))) stop
+    ⊎ ((other ≡ file) × IsFoundTooLong (second.too_long is) (second.remaining was) (second.left was)))
 
 -- The same of a check, whose two sources hadn't failed before. The file that is told as too long is that of a source that was found so,
 -- and one of both has more bytes than it may give.
 abbrev pub IsCausedInCheck : {R T : Type 0} → Ghosts R → R → R → List ℕ → Ghosts T → T → T → List ℕ → FileStop → Type 0
-IsCausedInCheck first old new name second was is other stop = IsOfCause
-    (λ file. ((file ≡ name) × (0 < first.failures new)) ⊎ ((file ≡ other) × (0 < second.failures is)))
+IsCausedInCheck first old new name second was is other = IsOfCause
+    (λ file. HasFailed first old new name file ⊎ HasFailed second was is other file)
     (λ file. (((file ≡ name) × IsTrue (first.too_long new)) ⊎ ((file ≡ other) × IsTrue (second.too_long is)))
     × (IsFoundTooLong (first.too_long new) (first.remaining old) (first.left old)
-    ⊎ IsFoundTooLong (second.too_long is) (second.remaining was) (second.left was))) stop
+    ⊎ IsFoundTooLong (second.too_long is) (second.remaining was) (second.left was)))
+
+-- the same of the question about a section and a file
+abbrev pub IsCausedWith : {R T : Type 0} → FileQuestion → Ghosts R → R → R → List ℕ → Ghosts T → T → T → List ℕ → FileStop → Type 0
+IsCausedWith (Check false ends partial at_least any_copy) first old new name second was is other =
+    IsCausedInCheck first old new name second was is other
+IsCausedWith question first old new name second was is other = IsCausedByEither first old new name second was is other
 
 -- ---- what was written if the answer to a request was stopped: nothing, or a prefix of an answer
 --     tells       what the opener may say of the file with a name, as the run begins
@@ -180,12 +200,17 @@ abbrev pub BeginsChecked : Judging → Bool → Scope → ℕ → Option (List �
 BeginsChecked from any_copy scope at_least old new text line general section =
     HasBegun (λ end status. IsChecked from any_copy scope at_least old end status text line general section) old new
 
+-- a prefix of the answer to a question about the section and another file, of these bytes
+abbrev pub BeginsWith : Judging → FileQuestion → Option (List ℕ) → Option (List ℕ) → Option (List ℕ) → List ℕ → List ℕ
+    → Option (List ℕ) → Type 0
+BeginsWith from (Check false ends partial at_least any_copy) old new bytes line general section =
+    BeginsChecked from any_copy (scope_in partial) at_least old new bytes line general section
+BeginsWith from question old new bytes line general section =
+    IsJudgedSo (asks_copies question) from (BeginsJudged (BeginsGoodFile question bytes) old new) line general section
+
 -- A prefix of the answer to the question about the section and the file with this name was written.
 abbrev pub BeginsFile : (List ℕ → FileState → Type 0) → Judging → List ℕ → FileQuestion → Option (List ℕ) → Option (List ℕ) → Type 0
-BeginsFile finds from file (Check false ends partial at_least any_copy) old new =
-    IsOfFile finds from file (BeginsChecked from any_copy (scope_in partial) at_least old new)
-BeginsFile finds from file question old new =
-    IsOfFile finds from file (λ bytes. IsJudgedSo (asks_copies question) from (BeginsJudged (BeginsGoodFile question bytes) old new))
+BeginsFile finds from file question old new = IsOfFile finds from file (BeginsWith from question old new)
 
 -- ---- sections that are read
 

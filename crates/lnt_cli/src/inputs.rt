@@ -1,24 +1,22 @@
 //! The files that a run reads.
-ghost use Rattle.std.specs.Prelude.{◌≡◌, ◌^◌, IfErr, IfOk, IsErr, IsErrOf, Ok, OnErr, Some, option_map, string_bytes, option_copied};
-ghost use Rattle.lnt_io.specs.Files.{AreBytesOf, FindsNoMore, IsTooLongFile, Readable, RefusesOnly};
-ghost use Rattle.lnt_io.specs.IoStops.{IsOpening};
+ghost use Rattle.std.specs.Prelude.{◌≡◌, ◌^◌, IfErr, IfOk, IsErr, Ok, OnErr, Some, option_map, string_bytes, option_copied};
+ghost use Rattle.lnt_io.specs.Files.{AreBytesOf, FindsNoMore, Readable};
 ghost use Rattle.lnt_cli.specs.Answered.{AreStringsOf, AreTextsOf, IsTextOf};
-ghost use Rattle.lnt_cli.specs.Stops.{IsFileOf, IsFileStop, NamesOneOf, StopsIfRefused, TellsLong};
+ghost use Rattle.lnt_cli.specs.Stops.{IsFileOf, IsFileStop, NamesOneOf, StopsIfRefused, TellsFile};
 
 use crate::stop::FileStop;
-use lnt_io::{Counted, Files, IoStop, Source, bytes_of_file, open_file, read_all, source_of};
-use lnt_notes::{Seen, WatchedReader};
+use lnt_io::{Files, IoStop, OpenedFile, Source, bytes_of_file};
+use lnt_notes::{Seen, Watching};
 use lnt_wire::Strings;
 use lnt_words::Judging;
 use std::alloc::Global;
 use std::cell::Cell;
-use std::io::{BufReader, Read};
 
-// A section, read from its file. `WatchedReader` keeps its first bytes and counts all of them, for notes.
-pub(crate) type Section<'c, R> = Blocks<WatchedReader<'c, R>>;
+// The file of a section. Its first bytes are kept and all of them are counted, for notes.
+pub(crate) type Section<'n, 'c, R> = OpenedFile<'n, R, Watching<'c>>;
 
-// A file, read block by block.
-pub(crate) type Blocks<R> = Counted<BufReader<R>>;
+// Another file.
+pub(crate) type Other<'n, R> = OpenedFile<'n, R, ()>;
 
 // The bytes of both string sections.
 #[derive(Drop)]
@@ -53,26 +51,6 @@ pub(crate) fn of_file<T>(name: String, ended: Result<T, IoStop>) -> Result<T, Fi
     }
 }
 
-// Opens the section in the file with this name. `seen` keeps what notes need of its bytes.
-pub(crate) fn open_section<'c, O: Files>(
-    alloc: Global,
-    opener: &mut O,
-    name: &str,
-    seen: &'c Cell<Seen>,
-) -> Result<Section<'c, O::Reader>, IoStop>
-    ensures failures { IfOk result (λ source. ⟦<Section<'c, O::Reader> as Source>⟧.failures source ≡ 0) }
-    ensures left { IfOk result (λ source. ⟦<Section<'c, O::Reader> as Source>⟧.left source ≡ 2 ^ 40) }
-    ensures found { IfOk result (λ source. O.finds opener.old name.now (Readable (⟦<Section<'c, O::Reader> as Source>⟧.remaining source))) }
-    ensures later { FindsNoMore (O.finds opener.old) (O.finds opener.new) }
-    ensures refused { RefusesOnly (λ other. IsErrOf result IoStop.Read × (name.now ≡ other)) (O.refused opener.old) (O.refused opener.new) }
-    ensures err { IfErr result IsOpening }
-{
-    match opener.reader_of(name) {
-        Some(reader) => Ok(source_of(alloc, WatchedReader::new(reader, seen))?),
-        None => Err(IoStop::Read),
-    }
-}
-
 // The open files of a section that is to be judged.
 #[derive(Drop)]
 pub(crate) struct Opened<S> {
@@ -81,65 +59,52 @@ pub(crate) struct Opened<S> {
 }
 
 // Reads the string files of the section that is to be judged, whole, and opens the section.
-pub(crate) fn open_judged<'c, O: Files>(
+pub(crate) fn open_judged<'n, 'c, O: Files>(
     alloc: Global,
     opener: &mut O,
-    from: &Judging<'_>,
+    from: &Judging<'n>,
     seen: &'c Cell<Seen>,
-) -> Result<Opened<Section<'c, O::Reader>>, FileStop>
+) -> Result<Opened<Section<'n, 'c, O::Reader>>, FileStop>
     ensures named { IfErr result (NamesOneOf (IsFileOf from.now)) }
     ensures texts { IfOk result (λ opened.
         AreTextsOf (O.finds opener.old) from.now opened.texts.line.items opened.texts.general.items) }
-    ensures failures { IfOk result (λ opened. ⟦<Section<'c, O::Reader> as Source>⟧.failures opened.section ≡ 0) }
-    ensures left { IfOk result (λ opened. ⟦<Section<'c, O::Reader> as Source>⟧.left opened.section ≡ 2 ^ 40) }
+    ensures name { IfOk result (λ opened. ⟦<Section<'n, 'c, O::Reader> as Source>⟧.name opened.section ≡ from.now.section.now) }
+    ensures failures { IfOk result (λ opened. ⟦<Section<'n, 'c, O::Reader> as Source>⟧.failures opened.section ≡ 0) }
+    ensures left { IfOk result (λ opened. ⟦<Section<'n, 'c, O::Reader> as Source>⟧.left opened.section ≡ 2 ^ 40) }
     ensures found { IfOk result (λ opened. O.finds opener.old from.now.section.now
-        (Readable (⟦<Section<'c, O::Reader> as Source>⟧.remaining opened.section))) }
+        (Readable (⟦<Section<'n, 'c, O::Reader> as Source>⟧.remaining opened.section))) }
     ensures later { FindsNoMore (O.finds opener.old) (O.finds opener.new) }
     ensures refused { StopsIfRefused result (O.refused opener.old) (O.refused opener.new) }
-    ensures too_long { IfErr result (TellsLong (λ name. IsTooLongFile (O.finds opener.old name))) }
+    ensures cause { IfErr result (TellsFile (O.finds opener.old)) }
 {
     let line = read_strings(alloc, opener, from.line_strings)?;
     let general = read_strings(alloc, opener, from.strings)?;
     let name = String::from_str(alloc, from.section)?;
-    let opened = open_section(alloc, opener, from.section, seen);
+    let opened = OpenedFile::open(alloc, opener, from.section, Watching::new(seen));
     let section = of_file(name, opened)?;
     let texts = Texts { line, general };
     Ok(Opened { texts, section })
 }
 
 // Opens the file with this name.
-pub(crate) fn open_other<O: Files>(
+pub(crate) fn open_other<'n, O: Files>(
     alloc: Global,
     opener: &mut O,
-    file: &str,
-) -> Result<Blocks<O::Reader>, FileStop>
+    file: &'n str,
+) -> Result<Other<'n, O::Reader>, FileStop>
     ensures named { IfErr result (NamesOneOf (λ other. file.now ≡ other)) }
-    ensures fails { IfOk result (λ opened. ⟦<Blocks<O::Reader> as Source>⟧.failures opened ≡ 0) }
-    ensures left { IfOk result (λ opened. ⟦<Blocks<O::Reader> as Source>⟧.left opened ≡ 2 ^ 40) }
+    ensures name { IfOk result (λ opened. ⟦<Other<'n, O::Reader> as Source>⟧.name opened ≡ file.now) }
+    ensures fails { IfOk result (λ opened. ⟦<Other<'n, O::Reader> as Source>⟧.failures opened ≡ 0) }
+    ensures left { IfOk result (λ opened. ⟦<Other<'n, O::Reader> as Source>⟧.left opened ≡ 2 ^ 40) }
     ensures found { IfOk result (λ opened.
-        O.finds opener.old file.now (Readable (⟦<Blocks<O::Reader> as Source>⟧.remaining opened))) }
+        O.finds opener.old file.now (Readable (⟦<Other<'n, O::Reader> as Source>⟧.remaining opened))) }
+    ensures later { FindsNoMore (O.finds opener.old) (O.finds opener.new) }
     ensures refused { StopsIfRefused result (O.refused opener.old) (O.refused opener.new) }
-    ensures too_long { IfErr result (TellsLong (λ name. IsTooLongFile (O.finds opener.old name))) }
+    ensures cause { IfErr result (TellsFile (O.finds opener.old)) }
 {
     let name = String::from_str(alloc, file)?;
-    let opened = open_file(alloc, opener, file);
+    let opened = OpenedFile::open(alloc, opener, file, ());
     of_file(name, opened)
-}
-
-// All bytes of the section in the file with this name. `seen` keeps what notes need of them.
-pub(crate) fn read_whole<O: Files>(
-    alloc: Global,
-    opener: &mut O,
-    name: &str,
-    seen: &Cell<Seen>,
-) -> Result<Vec<u8>, IoStop>
-    ensures bytes { IfOk result (λ bytes. AreBytesOf (O.finds opener.old name.now) bytes.items) }
-    ensures later { FindsNoMore (O.finds opener.old) (O.finds opener.new) }
-    ensures refused { RefusesOnly (λ other. IsErrOf result IoStop.Read × (name.now ≡ other)) (O.refused opener.old) (O.refused opener.new) }
-    ensures too_long { IsErrOf result IoStop.TooLong → IsTooLongFile (O.finds opener.old name.now) }
-{
-    let mut source = open_section(alloc, opener, name, seen)?;
-    Ok(read_all(alloc, &mut source)?)
 }
 
 // All bytes of the file with this name, if one is named.
@@ -152,7 +117,7 @@ pub(crate) fn read_named<O: Files>(
     ensures text { IfOk result (λ text.
         IsTextOf (O.finds opener.old) (option_copied file.entry) (option_map (λ bytes. bytes.items) text)) }
     ensures refused { StopsIfRefused result (O.refused opener.old) (O.refused opener.new) }
-    ensures too_long { IfErr result (TellsLong (λ name. IsTooLongFile (O.finds opener.old name))) }
+    ensures cause { IfErr result (TellsFile (O.finds opener.old)) }
 {
     match file {
         Some(name) => Ok(Some(read_file(alloc, opener, name)?)),
@@ -170,7 +135,7 @@ fn read_strings<O: Files>(
     ensures strings { IfOk result (λ bytes. AreStringsOf (O.finds opener.old) (option_copied file.entry) bytes.items) }
     ensures later { FindsNoMore (O.finds opener.old) (O.finds opener.new) }
     ensures refused { StopsIfRefused result (O.refused opener.old) (O.refused opener.new) }
-    ensures too_long { IfErr result (TellsLong (λ name. IsTooLongFile (O.finds opener.old name))) }
+    ensures cause { IfErr result (TellsFile (O.finds opener.old)) }
 {
     match file {
         Some(name) => read_file(alloc, opener, name),
@@ -184,8 +149,8 @@ fn read_file<O: Files>(alloc: Global, opener: &mut O, name: &str) -> Result<Vec<
     ensures bytes { IfOk result (λ bytes. AreBytesOf (O.finds opener.old name.now) bytes.items) }
     ensures later { FindsNoMore (O.finds opener.old) (O.finds opener.new) }
     ensures refused { StopsIfRefused result (O.refused opener.old) (O.refused opener.new) }
-    ensures too_long { IfErr result (TellsLong (λ name. IsTooLongFile (O.finds opener.old name))) }
+    ensures cause { IfErr result (TellsFile (O.finds opener.old)) }
 {
     let copy = String::from_str(alloc, name)?;
-    of_file(copy, bytes_of_file(alloc, opener, name))
+    of_file(copy, bytes_of_file(alloc, opener, name, ()))
 }

@@ -40,7 +40,7 @@ pub use program::answer;
 pub use stop::FileStop;
 
 // Files by their names, and how a run ends.
-pub use lnt_io::{Files, IoStop, OpenedFile, Opener, Status};
+pub use lnt_io::{Files, IoStop, OpenedFile, Opener, Status, Watcher};
 
 // MD5 sums.
 pub use lnt_answers::{Agreement, md5_agrees, sum_of};

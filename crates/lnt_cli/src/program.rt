@@ -4,7 +4,7 @@ ghost use Rattle.lnt_io.specs.Files.{RefusesOnly};
 ghost use Rattle.lnt_notes.specs.Notes.{WritesNotes};
 ghost use Rattle.lnt_cli.specs.Answered.{IsAnswered};
 ghost use Rattle.lnt_cli.specs.Runs.{AnswersWords, IsStopOf, NameUnreadable};
-ghost use Rattle.lnt_cli.specs.Stops.{IsFileIn, IsLongIn, IsNamedUnreadable, IsStopped, NamesOneOf, TellsLong};
+ghost use Rattle.lnt_cli.specs.Stops.{IsFileIn, IsLongIn, IsNamedUnreadable, IsStopped, NamesOneOf, TellsCause};
 
 use crate::notes::{Answered, note_word, print_notes};
 use crate::question::{answer_file, answer_question};
@@ -40,10 +40,11 @@ pub fn run<O: Files, W: Write>(
 /// flushed, except after each answered block of lines of a file of addresses.
 ///
 /// A run stops with `Usage` only if the words ask for nothing (`AskForNothing`), before a file is opened and with nothing
-/// written; with `Read` or `TooLong` for a file that the words name (`NameFile`), with `TooLong` only for one of more than 2^40 bytes,
-/// as `IsLongIn` says; with `Write` if `out` failed, after a prefix of the text; and with `Memory` (`IsStopOf`). What
-/// [`answer`] states was written if it stops. If the opener refuses a file, it stops with `Read` and that file's name, and for no
-/// other reason (`NameUnreadable`), except once it judges listed sums.
+/// written; with `Read` or `TooLong` for a file that the words name (`NameFile`), with `Read` only for one that can't be opened or
+/// of which a read failed, and with `TooLong` only for one of more than 2^40 bytes, as `IsLongIn` says (`TellsCause`); with `Write`
+/// if `out` failed, after a prefix of the text; and with `Memory` (`IsStopOf`). What [`answer`] states was written if it stops. If
+/// the opener refuses a file, it stops with `Read` and that file's name, and for no other reason (`NameUnreadable`), except once it
+/// judges listed sums.
 ///
 /// Advice for a person is written to `notes`, to be shown after the answer: a line for each note, which begins with `linetab: note: `
 /// and has no other line feed, and nothing else (`WritesNotes`). It is nothing if the words ask for no notes. A run doesn't stop if
@@ -88,9 +89,10 @@ pub fn run_with_notes<O: Files, W: Write, N: Write>(
 /// first fault (`AnswersSymbols`). For the lines of a file, a line is written for each of them (`AnswersFile`).
 ///
 /// If it stops, a prefix of an answer has been written, and nothing else (`IsStopped`). It stops with `Read` or `TooLong` for a
-/// file that the request names (`IsFileIn`), and with `TooLong` only if it has more than 2^40 bytes, as `IsLongIn` says; with
-/// `Write` if `out` failed; and with `Memory`. If the opener refuses a file, it stops with `Read` and that file's name
-/// (`IsNamedUnreadable`). Listed sums are the exception: once the section is open, a listed file that is refused is part of the answer.
+/// file that the request names (`IsFileIn`), with `Read` only if it can't be opened or a read of it failed, and with `TooLong` only
+/// if it has more than 2^40 bytes, as `IsLongIn` says (`TellsCause`); with `Write` if `out` failed; and with `Memory`. If the opener
+/// refuses a file, it stops with `Read` and that file's name (`IsNamedUnreadable`). Listed sums are the exception: once the section
+/// is open, a listed file that is refused is part of the answer.
 pub fn answer<O: Files, W: Write, N: Write>(
     alloc: Global,
     asked: &Asked<'_>,
@@ -104,7 +106,7 @@ pub fn answer<O: Files, W: Write, N: Write>(
     ensures stopped { OnErr result (IsStopped (O.finds opener.old) asked.now.request (W.contents out.old) (W.contents out.new)) }
     ensures refused { RefusesOnly (IsNamedUnreadable (O.finds opener.old) asked.now.request result)
         (O.refused opener.old) (O.refused opener.new) }
-    ensures too_long { IfErr result (TellsLong (IsLongIn (O.finds opener.old) asked.now.request)) }
+    ensures cause { IfErr result (TellsCause (O.finds opener.old) (IsLongIn (O.finds opener.old) asked.now.request)) }
     ensures notes { WritesNotes (N.contents notes.old) (N.contents notes.new) }
     ensures quiet { IsTrue asked.now.quiet → notes.new ≡ notes.old }
 {
@@ -130,7 +132,7 @@ fn answer_request<'r, O: Files, W: Write>(
     ensures stopped { OnErr result (IsStopped (O.finds opener.old) request.now (W.contents out.old) (W.contents out.new)) }
     ensures refused { RefusesOnly (IsNamedUnreadable (O.finds opener.old) request.now result)
         (O.refused opener.old) (O.refused opener.new) }
-    ensures too_long { IfErr result (TellsLong (IsLongIn (O.finds opener.old) request.now)) }
+    ensures cause { IfErr result (TellsCause (O.finds opener.old) (IsLongIn (O.finds opener.old) request.now)) }
 {
     match request {
         Request::Help(text) => {

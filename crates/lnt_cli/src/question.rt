@@ -1,15 +1,16 @@
 //! Questions about a section that is judged, alone or with another file.
 ghost use Rattle.std.specs.Prelude.{◌≡◌, ◌-◌, ◌^◌, ◌<◌, ◌⊎◌, false, IfErr, IfOk, IsErrAnd, OnErr};
 ghost use Rattle.std.specs.Io.KnownBytes.{Keeps};
-ghost use Rattle.lnt_io.specs.Files.{IsTooLongFile, RefusesOnly};
+ghost use Rattle.lnt_io.specs.Files.{FindsNoMore, RefusesOnly};
 ghost use Rattle.lnt_io.specs.IoStops.{IsPrinting};
 ghost use Rattle.lnt_words.specs.declared.request.Question.TheVariants.{Md5};
 ghost use Rattle.lnt_answers.specs.Lines.{HasBegunLine, IsIndexGiven, IsReasonPrinted};
-ghost use Rattle.lnt_cli.specs.Answered.{AnswersFile, AnswersQuestion, IsJudgedSo, IsTrueOf, options_by, options_in};
+ghost use Rattle.lnt_cli.specs.Answered.{AnswersFile, AnswersQuestion, AnswersWith, IsJudgedSo, IsTrueOf, options_by, options_in};
 ghost use Rattle.lnt_cli.specs.Questions.{AnswersGood, AnswersGoodFile, AnswersJudged, BeginsGood, BeginsGoodFile, BeginsJudged};
 ghost use Rattle.lnt_cli.specs.Questions.{asks_copies};
-ghost use Rattle.lnt_cli.specs.Stops.{AnswersUnreadable, BeginsFile, BeginsQuestion, IsCausedBy, IsCausedByEither, IsFileOf, IsFileOfBoth};
-ghost use Rattle.lnt_cli.specs.Stops.{IsLongWith, IsUnreadable, NamesOneOf, StopsIfRefused, TellsLong};
+ghost use Rattle.lnt_cli.specs.Stops.{AnswersUnreadable, BeginsFile, BeginsQuestion, BeginsWith, IsCausedBy, IsCausedByEither};
+ghost use Rattle.lnt_cli.specs.Stops.{IsCausedWith, IsFileOf, IsFileOfBoth, IsLongWith, IsUnreadable, NamesOneOf, StopsIfRefused};
+ghost use Rattle.lnt_cli.specs.Stops.{TellsCause, TellsFile};
 
 use crate::check::{TableCheck, check_table};
 use crate::inputs::{Opened, Texts, of_file, open_judged, open_other};
@@ -46,10 +47,12 @@ pub(crate) fn answer_question<'t, O: Files, W: Write>(
         ⊎ BeginsQuestion (O.finds opener.old) from.now question.now (W.contents out.old) (W.contents out.new)) }
     ensures refused { RefusesOnly (λ name. IsErrAnd result (λ stop. IsUnreadable stop name)
         ⊎ AnswersUnreadable (O.finds opener.old) from.now question.now) (O.refused opener.old) (O.refused opener.new) }
-    ensures too_long { IfErr result (TellsLong (λ name. IsTooLongFile (O.finds opener.old name))) }
+    ensures cause { IfErr result (TellsFile (O.finds opener.old)) }
 {
     let mut files = open_judged(alloc, opener, from, seen)?;
-    answer_opened(alloc, from, question, &mut files, opener, out)
+    let answered = answer_opened(alloc, from, question, &mut files, opener, out);
+    files.section.tell_unread(opener);
+    answered
 }
 
 // Answers a question about a section whose files are open.
@@ -69,6 +72,7 @@ fn answer_opened<'t, S: Source, O: Files, W: Write>(
     ensures stopped { OnErr result (Keeps (W.contents out.old) (W.contents out.new)
         ⊎ IsJudgedSo false from.now (BeginsJudged (BeginsGood (O.finds opener.old) question.now) (W.contents out.old) (W.contents out.new))
         files.old.texts.line.items files.old.texts.general.items (S.remaining files.old.section)) }
+    ensures later { FindsNoMore (O.finds opener.old) (O.finds opener.new) }
     ensures refused { RefusesOnly (λ _. question.now ≡ Md5) (O.refused opener.old) (O.refused opener.new) }
     ensures cause { IfErr result (IsCausedBy ⟦<S as Source>⟧ files.old.section files.new.section from.now.section.now) }
 {
@@ -104,10 +108,37 @@ pub(crate) fn answer_file<'f, O: Files, W: Write>(
     ensures stopped { OnErr result (Keeps (W.contents out.old) (W.contents out.new)
         ⊎ BeginsFile (O.finds opener.old) from.now file.now question (W.contents out.old) (W.contents out.new)) }
     ensures refused { StopsIfRefused result (O.refused opener.old) (O.refused opener.new) }
-    ensures too_long { IfErr result (TellsLong (IsLongWith (O.finds opener.old) from.now file.now question)) }
+    ensures cause { IfErr result (TellsCause (O.finds opener.old) (IsLongWith (O.finds opener.old) from.now file.now question)) }
 {
     let mut files = open_judged(alloc, opener, from, seen)?;
     let mut other = open_other(alloc, opener, file)?;
+    let answered = answer_with(alloc, from, file, question, &mut files, &mut other, out);
+    files.section.tell_unread(opener);
+    other.tell_unread(opener);
+    answered
+}
+
+// Answers a question about a section and the file with this name, which are open.
+fn answer_with<'f, S: Source, F: Source, W: Write>(
+    alloc: Global,
+    from: &Judging<'_>,
+    file: &'f str,
+    question: FileQuestion,
+    files: &mut Opened<S>,
+    other: &mut F,
+    out: &mut W,
+) -> Result<Answered<'f>, FileStop>
+    requires section { S.failures files.old.section ≡ 0 }
+    requires file { F.failures other.old ≡ 0 }
+    ensures named { IfErr result (NamesOneOf (IsFileOfBoth from.now file.now)) }
+    ensures answer { IfOk result (λ answered. AnswersWith from.now question (W.contents out.old) (W.contents out.new) answered.status
+        (F.remaining other.old) files.old.texts.line.items files.old.texts.general.items (S.remaining files.old.section)) }
+    ensures stopped { OnErr result (Keeps (W.contents out.old) (W.contents out.new)
+        ⊎ BeginsWith from.now question (W.contents out.old) (W.contents out.new)
+        (F.remaining other.old) files.old.texts.line.items files.old.texts.general.items (S.remaining files.old.section)) }
+    ensures cause { IfErr result (IsCausedWith question ⟦<S as Source>⟧ files.old.section files.new.section from.now.section.now
+        ⟦<F as Source>⟧ other.old other.new file.now) }
+{
     match question {
         FileQuestion::Check {
             all: false,
@@ -122,14 +153,12 @@ pub(crate) fn answer_file<'f, O: Files, W: Write>(
                 scope,
                 at_least,
             };
-            check_table(alloc, from, file, asked, &mut files, &mut other, out)
+            check_table(alloc, from, file, asked, files, other, out)
         }
         FileQuestion::Check { all: true, .. } => {
-            answer_both(alloc, from, file, question, &mut files, &mut other, out)
+            answer_both(alloc, from, file, question, files, other, out)
         }
-        FileQuestion::Lines(_) => {
-            answer_both(alloc, from, file, question, &mut files, &mut other, out)
-        }
+        FileQuestion::Lines(_) => answer_both(alloc, from, file, question, files, other, out),
     }
 }
 
@@ -270,6 +299,7 @@ fn print_answer<O: Files, W: Write>(
     ensures answer { IfOk result (λ status.
         AnswersGood (O.finds opener.old) question.now index.now (W.contents out.old) (W.contents out.new) status) }
     ensures stopped { OnErr result (BeginsGood (O.finds opener.old) question.now index.now (W.contents out.old) (W.contents out.new)) }
+    ensures later { FindsNoMore (O.finds opener.old) (O.finds opener.new) }
     ensures refused { RefusesOnly (λ _. question.now ≡ Md5) (O.refused opener.old) (O.refused opener.new) }
     ensures err { IfErr result IsPrinting }
 {

@@ -1,19 +1,19 @@
 //! Files that are read, and not judged.
 ghost use Rattle.std.specs.Prelude.{◌≡◌, ◌-◌, ◌^◌, ◌<◌, ◌⊎◌, IfErr, IfOk, IsErrOf, OnErr};
 ghost use Rattle.std.specs.Io.KnownBytes.{Keeps};
-ghost use Rattle.lnt_io.specs.Files.{IsTooLongFile, RefusesOnly};
+ghost use Rattle.lnt_io.specs.Files.{IsTooLongFile, IsUnreadFile, RefusesOnly};
 ghost use Rattle.lnt_io.specs.Stopping.{CountsFailure, IsTooLongOn};
 ghost use Rattle.lnt_cli.specs.Answered.{AnswersUpgrade, IsOfBytes};
 ghost use Rattle.lnt_cli.specs.Printings.{AnswersPrinting, BeginsPrinting};
 ghost use Rattle.lnt_cli.specs.Questions.{AnswersReading, BeginsReading};
-ghost use Rattle.lnt_cli.specs.Stops.{IsFileOfUpgrade, NamesOneOf, StopsIfRefused, StopsUpgrade, TellsLong};
+ghost use Rattle.lnt_cli.specs.Stops.{IsFileOfUpgrade, NamesOneOf, StopsIfRefused, StopsUpgrade, TellsFile};
 
-use crate::inputs::{of_file, open_section, read_named, read_whole};
+use crate::inputs::{of_file, read_named};
 use crate::notes::Answered;
 use crate::stop::FileStop;
 use lnt_dump::{DumpParts, print_converted, print_dump, print_units, print_upgraded};
-use lnt_io::{Files, IoStop, Source, Status};
-use lnt_notes::Seen;
+use lnt_io::{Files, IoStop, OpenedFile, Source, Status, bytes_of_file};
+use lnt_notes::{Seen, Watching};
 use lnt_symbols::print_symbols;
 use lnt_wire::Order;
 use lnt_words::{Reading, Upgrading};
@@ -46,7 +46,7 @@ pub(crate) fn answer_printing<'t, O: Files, W: Write>(
         ⊎ IsOfBytes (O.finds opener.old) file.now (λ known.
         BeginsPrinting printing known (W.contents out.old) (W.contents out.new))) }
     ensures refused { StopsIfRefused result (O.refused opener.old) (O.refused opener.new) }
-    ensures too_long { IfErr result (TellsLong (λ name. IsTooLongFile (O.finds opener.old name))) }
+    ensures cause { IfErr result (TellsFile (O.finds opener.old)) }
 {
     let name = String::from_str(alloc, file)?;
     let printed = print_file(alloc, file, printing, opener, seen, out);
@@ -69,10 +69,10 @@ pub(crate) fn upgrade_section<'t, O: Files, W: Write>(
     ensures stopped { OnErr result (Keeps (W.contents out.old) (W.contents out.new)
         ⊎ StopsUpgrade (O.finds opener.old) from.now (W.contents out.old) (W.contents out.new)) }
     ensures refused { StopsIfRefused result (O.refused opener.old) (O.refused opener.new) }
-    ensures too_long { IfErr result (TellsLong (λ name. IsTooLongFile (O.finds opener.old name))) }
+    ensures cause { IfErr result (TellsFile (O.finds opener.old)) }
 {
     let name = String::from_str(alloc, from.section)?;
-    let read = read_whole(alloc, opener, from.section, seen);
+    let read = bytes_of_file(alloc, opener, from.section, Watching::new(seen));
     let bytes = of_file(name, read)?;
     let text = read_named(alloc, opener, from.directories)?;
     let name = String::from_str(alloc, from.section)?;
@@ -98,14 +98,32 @@ fn print_file<O: Files, W: Write>(
         BeginsPrinting printing known (W.contents out.old) (W.contents out.new))) }
     ensures refused { RefusesOnly (λ other. IsErrOf result IoStop.Read × (file.now ≡ other))
         (O.refused opener.old) (O.refused opener.new) }
+    ensures unread { IsErrOf result IoStop.Read → IsUnreadFile (O.finds opener.old file.now) }
     ensures too_long { IsErrOf result IoStop.TooLong → IsTooLongFile (O.finds opener.old file.now) }
 {
-    let mut source = open_section(alloc, opener, file, seen)?;
+    let mut source = OpenedFile::open(alloc, opener, file, Watching::new(seen))?;
+    let printed = print_source(alloc, &mut source, printing, out);
+    source.tell_unread(opener);
+    printed
+}
+
+// Prints this of a source.
+fn print_source<R: Source, W: Write>(
+    alloc: Global,
+    source: &mut R,
+    printing: Printing,
+    out: &mut W,
+) -> Result<Status, IoStop>
+    requires { R.failures source.old < 2 ^ 64 - 1 }
+    ensures printed { IfOk result (AnswersPrinting printing (R.remaining source.old) (W.contents out.old) (W.contents out.new)) }
+    ensures begun { OnErr result (Keeps (W.contents out.old) (W.contents out.new)
+        ⊎ BeginsPrinting printing (R.remaining source.old) (W.contents out.old) (W.contents out.new)) }
+    ensures failures { CountsFailure ⟦<R as Source>⟧ source.old source.new result IoStop.Read }
+    ensures too_long { IsTooLongOn ⟦<R as Source>⟧ source.old source.new result IoStop.TooLong }
+{
     match printing {
-        Printing::Section(order, reading) => {
-            print_reading(alloc, &mut source, order, reading, out)
-        }
-        Printing::Symbols(base) => print_symbols(alloc, &mut source, base, out),
+        Printing::Section(order, reading) => print_reading(alloc, source, order, reading, out),
+        Printing::Symbols(base) => print_symbols(alloc, source, base, out),
     }
 }
 

@@ -34,6 +34,10 @@ pub record IsTooLongFile (finds : FileState → Type 0) : Type 0 where
   pub is_found : finds (Readable found)
   pub more : HasMoreThan found (2 ^ 40)
 
+-- A file of which this may be known can't be opened, or can't be read whole.
+abbrev pub IsUnreadFile : (FileState → Type 0) → Type 0
+IsUnreadFile finds = finds Unreadable ⊎ finds Unread
+
 -- ---- how often the file with a name was opened: at most so often before (old) and afterwards (new)
 
 -- the file with this name was opened once more, or not, and no other

@@ -1,12 +1,12 @@
 //! Files by their names, as the command reads them.
 ghost use Rattle.std.specs.Prelude.{◌≡◌, ◌≢◌, ◌^◌, ◌<◌, ◌⊎◌, ℕ, List, IfOk, IfErr, IfSome, IsErrOf, IsNone, IsTrue, ⊤, false};
 ghost use Rattle.lnt_io.specs.Files.{AreBytesOf, FileState, Readable, RefusesOnly, FindsNoMore, Unread, Unreadable};
-ghost use Rattle.lnt_io.specs.Files.{IsTooLongFile, OpensOnce, OpensOnly, OrUnread};
-ghost use Rattle.lnt_io.specs.IoStops.{IsOpening};
+ghost use Rattle.lnt_io.specs.Files.{IsTooLongFile, IsUnreadFile, OpensOnce, OpensOnly, OrUnread};
 ghost use Rattle.lnt_io.specs.declared.io_stop.IoStop.TheVariants.{Write};
 
 use crate::io_stop::IoStop;
 use crate::opener::Opener;
+use crate::watcher::Watcher;
 use crate::{BLOCK, Counted, LIMIT, OpenedFile, Source, read_all};
 use std::alloc::{AllocError, Global};
 use std::io::{BufReader, Read};
@@ -35,11 +35,12 @@ pub trait Files {
         ensures opened { OpensOnce name.now (opens self.old) (opens self.new) };
 
     /// Takes note that a file couldn't be read whole: its source failed, or was found too long.
-    fn could_not_read<'n>(&mut self, file: &OpenedFile<'n, Self::Reader>)
-        requires { 0 < ⟦<OpenedFile<'n, Self::Reader> as Source>⟧.failures file.now
-            ⊎ IsTrue (⟦<OpenedFile<'n, Self::Reader> as Source>⟧.too_long file.now) }
-        ensures unread { finds self.old (⟦<OpenedFile<'n, Self::Reader> as Source>⟧.name file.now) Unread }
+    fn could_not_read<'n, V: Watcher>(&mut self, file: &OpenedFile<'n, Self::Reader, V>)
+        requires { 0 < ⟦<OpenedFile<'n, Self::Reader, V> as Source>⟧.failures file.now
+            ⊎ IsTrue (⟦<OpenedFile<'n, Self::Reader, V> as Source>⟧.too_long file.now) }
+        ensures unread { finds self.old (⟦<OpenedFile<'n, Self::Reader, V> as Source>⟧.name file.now) Unread }
         ensures later { FindsNoMore (finds self.old) (finds self.new) }
+        ensures refused { RefusesOnly (λ _. ⊥) (refused self.old) (refused self.new) }
         ensures opened { OpensOnly (λ _. ⊥) (opens self.old) (opens self.new) };
 
     /// Another reader of a file that was read before, as [`Opener::reader_again`].
@@ -66,7 +67,7 @@ impl<O: Opener> Files for O {
         Opener::reader_of(self, name)
     }
 
-    fn could_not_read<'n>(&mut self, _file: &OpenedFile<'n, O::Reader>) {}
+    fn could_not_read<'n, V: Watcher>(&mut self, _file: &OpenedFile<'n, O::Reader, V>) {}
 
     fn reader_again(&self, name: &str) -> Option<O::Reader> {
         Opener::reader_again(self, name)
@@ -78,32 +79,6 @@ impl<O: Opener> Files for O {
 
     fn reason(&self, alloc: Global) -> Option<String> {
         Opener::reason(self, alloc)
-    }
-}
-
-/// The file with this name, as a source of its bytes. It is read block by block, as they are needed.
-///
-/// The source hasn't failed, wasn't found too long, and may give 2^40 bytes. It gives what the opener says of the file, which is
-/// opened once. Fails with `Read` if the opener gives no reader (`refused`), and otherwise only with `Memory`.
-pub fn open_file<O: Files>(
-    alloc: Global,
-    opener: &mut O,
-    name: &str,
-) -> Result<Counted<BufReader<O::Reader>>, IoStop>
-    ensures failures { IfOk result (λ source. ⟦<Counted<BufReader<O::Reader>> as Source>⟧.failures source ≡ 0) }
-    ensures too_long { IfOk result (λ source. ⟦<Counted<BufReader<O::Reader>> as Source>⟧.too_long source ≡ false) }
-    ensures left { IfOk result (λ source. ⟦<Counted<BufReader<O::Reader>> as Source>⟧.left source ≡ 2 ^ 40) }
-    ensures found { IfOk result (λ source.
-        O.finds opener.old name.now (Readable (⟦<Counted<BufReader<O::Reader>> as Source>⟧.remaining source))) }
-    ensures none { IsErrOf result IoStop.Read → O.finds opener.old name.now Unreadable }
-    ensures later { FindsNoMore (O.finds opener.old) (O.finds opener.new) }
-    ensures refused { RefusesOnly (λ other. IsErrOf result IoStop.Read × (name.now ≡ other)) (O.refused opener.old) (O.refused opener.new) }
-    ensures opened { OpensOnce name.now (O.opens opener.old) (O.opens opener.new) }
-    ensures err { IfErr result IsOpening }
-{
-    match opener.reader_of(name) {
-        Some(reader) => Ok(source_of(alloc, reader)?),
-        None => Err(IoStop::Read),
     }
 }
 
@@ -126,18 +101,26 @@ pub fn source_of<R: Read + Drop>(
     }
 }
 
-/// All bytes of the file with this name, as the opener says them. It is opened once.
+/// All bytes of the file with this name, as the opener says them. It is opened once, and its bytes are shown to the watcher.
 ///
-/// Fails with `Read` if the file can't be opened or read, with `TooLong` only if it has more bytes than the limit, and with
-/// `Memory`; never with `Write`.
-pub fn bytes_of_file<O: Files>(alloc: Global, opener: &mut O, name: &str) -> Result<Vec<u8>, IoStop>
+/// Fails with `Read` only if the file can't be opened or read, of which the opener takes note; with `TooLong` only if it has more
+/// bytes than the limit; and with `Memory`; never with `Write`.
+pub fn bytes_of_file<O: Files, V: Watcher + Drop>(
+    alloc: Global,
+    opener: &mut O,
+    name: &str,
+    watcher: V,
+) -> Result<Vec<u8>, IoStop>
     ensures bytes { IfOk result (λ bytes. AreBytesOf (O.finds opener.old name.now) bytes.items) }
     ensures later { FindsNoMore (O.finds opener.old) (O.finds opener.new) }
     ensures refused { RefusesOnly (λ other. IsErrOf result IoStop.Read × (name.now ≡ other)) (O.refused opener.old) (O.refused opener.new) }
     ensures opened { OpensOnce name.now (O.opens opener.old) (O.opens opener.new) }
+    ensures unread { IsErrOf result IoStop.Read → IsUnreadFile (O.finds opener.old name.now) }
     ensures too_long { IsErrOf result IoStop.TooLong → IsTooLongFile (O.finds opener.old name.now) }
     ensures err { IfErr result (λ io_stop. io_stop ≢ Write) }
 {
-    let mut source = open_file(alloc, opener, name)?;
-    Ok(read_all(alloc, &mut source)?)
+    let mut file = OpenedFile::open(alloc, opener, name, watcher)?;
+    let read = read_all(alloc, &mut file);
+    file.tell_unread(opener);
+    Ok(read?)
 }

@@ -22,6 +22,7 @@ fn fill<R: Source>(source: &mut R, room: &mut [u8]) -> Result<usize, ReadFault>
     ensures left { IfOk result (λ k. R.left source.new + k ≡ R.left source.old) }
     ensures failures { MatchResult result
         (λ _. R.failures source.new ≡ R.failures source.old) (λ _. R.failures source.new ≡ R.failures source.old + 1) }
+    ensures name { R.name source.new ≡ R.name source.old }
 {
     let mut filled = 0;
     while filled < room.len() {

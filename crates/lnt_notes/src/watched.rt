@@ -1,8 +1,8 @@
-//! A reader that keeps the first bytes of a file and counts all of them.
+//! The first bytes that are read of a file, and how many are read.
 ghost use Rattle.std.specs.Prelude.{◌≡◌};
 
+use lnt_io::Watcher;
 use std::cell::Cell;
-use std::io::{self, Read};
 
 // The number of first bytes that are kept.
 const HEAD: usize = 64;
@@ -45,30 +45,23 @@ impl Seen {
     }
 }
 
-/// A reader that notes in a cell which bytes it reads.
+/// Notes in a cell which bytes are read of a file.
 #[derive(Drop)]
-pub struct WatchedReader<'a, R> {
-    reader: R,
+pub struct Watching<'a> {
     seen: &'a Cell<Seen>,
 }
 
-impl<'a, R: Read> WatchedReader<'a, R> {
-    /// A reader with the same bytes to give as this one. The cell gets what is noted of them, at each read.
-    pub fn new(reader: R, seen: &'a Cell<Seen>) -> WatchedReader<'a, R>
-        ensures { ⟦<WatchedReader<'a, R> as Read>⟧.remaining result ≡ R.remaining reader }
-    {
-        WatchedReader { reader, seen }
+impl<'a> Watching<'a> {
+    /// The cell gets what is noted of the bytes that are read, at each read.
+    pub fn new(seen: &'a Cell<Seen>) -> Watching<'a> {
+        Watching { seen }
     }
 }
 
-impl<R: Read> Read for WatchedReader<'_, R> {
-    ghost remaining = { λ w. R.remaining w.reader };
-
-    fn read(&mut self, buf: &mut [u8]) -> io::Result<usize> {
-        let count = self.reader.read(buf)?;
+impl Watcher for Watching<'_> {
+    fn see(&mut self, bytes: &[u8]) {
         let mut seen = self.seen.get();
-        seen.see(&buf[..count]);
+        seen.see(bytes);
         self.seen.set(seen);
-        Ok(count)
     }
 }

@@ -1,7 +1,8 @@
 //! `lnt_cli`: the command over an opener and a writer.
 use lnt_cli::{
-    Agreement, Argument, Asked, CliStop, FileStop, Files, OpenedFile, Opener, Request, Shown,
-    Status, Stop, WordsStop, answer, md5_agrees, request_of, run, run_with_notes, sum_of,
+    Agreement, Argument, Asked, CliStop, FileStop, Files, IoStop, OpenedFile, Opener, Request,
+    Shown, Status, Stop, Watcher, WordsStop, answer, md5_agrees, request_of, run, run_with_notes,
+    sum_of,
 };
 use lnt_wire::Counted;
 use std::alloc::Global;
@@ -100,9 +101,23 @@ pub fn shown(name: &str) -> Shown<'_> {
     Shown(name)
 }
 
-/// A file that is opened by its name.
-pub fn opened<'n>(files: &mut One, name: &'n str) -> Option<OpenedFile<'n, &'static [u8]>> {
-    OpenedFile::open(files, name)
+/// A file that is opened by its name, and shows its bytes to nobody.
+pub fn opened<'n>(
+    alloc: Global,
+    files: &mut One,
+    name: &'n str,
+) -> Result<OpenedFile<'n, &'static [u8], ()>, IoStop> {
+    OpenedFile::open(alloc, files, name, ())
+}
+
+/// The same, with its bytes shown to a watcher.
+pub fn watched<'n, V: Watcher + Drop>(
+    alloc: Global,
+    files: &mut One,
+    name: &'n str,
+    watcher: V,
+) -> Result<OpenedFile<'n, &'static [u8], V>, IoStop> {
+    OpenedFile::open(alloc, files, name, watcher)
 }
 
 /// The sum of some bytes.

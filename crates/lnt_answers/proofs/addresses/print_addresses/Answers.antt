@@ -10,6 +10,7 @@ use Rattle.lnt_answers.proofs.addresses.print_addresses.Goals as goal
 pub loop-count-init : goal.loop-count-init
 loop-count-init g c = record {
   failures = refl;
+  name = refl;
   more = λ more. more;
   full = search rules;
   same = c.new-asked.ensures.op;
@@ -25,6 +26,7 @@ loop-count-preserved g c =
     c.loop-count.block.len c.pull.new.buf _ c.deref.result.now (search rules) c.deref.ensures.value c.in-Ok.ensures.bytes in
     record {
       failures = c.in-Ok.ensures.failures ∙ c.loop-count.invariant.failures;
+      name = c.pull.ensures.name ∙ c.loop-count.invariant.name;
       more = λ more. c.loop-count.invariant.more (more_before (g.T.Source.remaining c.loop-count.lines)
           (g.T.Source.remaining c.pull.new.self) c.in-Ok.count c.pull.new.buf _ _ c.in-Ok.ensures.bound c.in-Ok.ensures.bytes
           c.in-Ok.ensures.left more);

@@ -6,6 +6,7 @@ use Rattle.lnt_answers.proofs.addresses.print_addresses.Given as goal
 abbrev pub invariant-loop-count : goal.invariant-loop-count
 invariant-loop-count g l = record {
   failures : g.T.Source.failures l.lines ≡ g.T.Source.failures l.fn.lines;
+  name : g.T.Source.name l.lines ≡ g.T.Source.name l.fn.lines;
   more : HasMoreThan (g.T.Source.remaining l.lines) (g.T.Source.left l.lines)
       → HasMoreThan (g.T.Source.remaining l.fn.lines) (g.T.Source.left l.fn.lines);
   full : length l.block.items ≡ 65536;

@@ -24,7 +24,7 @@ returns-in_err-write_whole-clause-begun g c =
     so_stopped c.from_residual-in_err-write_whole.result _
     (sum_stopped (g.O.Files.finds c.args.opener.now) c.args.index.now c.args.unit c.args.file (g.W.Write.contents c.args.out.now)
     (g.W.Write.contents c.write_whole.new.out) c.in-Some.listed c.deref.result.now c.deref-2.result.now c.as_slice.result.now
-    c.found_of-found.result (search rules) (search rules) (search rules) c.found_of-found.ensures.found
+    c.in_ok-found.found (search rules) (search rules) (search rules) c.in_ok-found.ensures.found
     (text_in_room c.clear.new.self.items c.put_found.new.line.items c.as_slice.result.now _ c.clear.ensures.items c.in_ok-put_found.ensures
     c.as_slice.ensures.value)
     c.in_err-write_whole.ensures.prefix)
@@ -32,9 +32,15 @@ returns-in_err-write_whole-clause-begun g c =
 pub returns-clause-sum : goal.returns-clause-sum
 returns-clause-sum g c =
     sum_listed (g.O.Files.finds c.args.opener.now) c.args.index.now c.args.unit c.args.file (g.W.Write.contents c.args.out.now)
-    (g.W.Write.contents c.write_whole.new.out) c.in-Some.listed c.deref.result.now c.deref-2.result.now c.found_of-found.result
-    c.status_of.result (search rules) (search rules) (search rules) c.found_of-found.ensures.found
+    (g.W.Write.contents c.write_whole.new.out) c.in-Some.listed c.deref.result.now c.deref-2.result.now c.in_ok-found.found
+    c.status_of.result (search rules) (search rules) (search rules) c.in_ok-found.ensures.found
     (subst (Appends (g.W.Write.contents c.args.out.now) (g.W.Write.contents c.write_whole.new.out))
     (text_in_room c.clear.new.self.items c.put_found.new.line.items c.as_slice.result.now _ c.clear.ensures.items c.in_ok-put_found.ensures
     c.as_slice.ensures.value)
     c.in_ok-write_whole.ensures.whole) c.status_of.ensures
+
+pub returns-in_err-found-clause-begun : goal.returns-in_err-found-clause-begun
+returns-in_err-found-clause-begun g c =
+    so_stopped c.from_residual-in_err-found.result _
+    (sums_unbegun (g.O.Files.finds c.args.opener.now) c.args.index.now (listed_at c.args.index.now c.args.unit c.args.file)
+    (g.W.Write.contents c.args.out.now))

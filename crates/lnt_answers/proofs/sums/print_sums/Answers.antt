@@ -27,3 +27,6 @@ returns-in_err-of_unit-clause-begun g c =
 
 pub returns-in_err-of_unit-clause-opened : goal.returns-in_err-of_unit-clause-opened
 returns-in_err-of_unit-clause-opened g c = opens_then _ _ _ _ c.loop-unit.invariant.2 c.in_err-of_unit.ensures.opened
+
+pub returns-in_err-of_unit-clause-later : goal.returns-in_err-of_unit-clause-later
+returns-in_err-of_unit-clause-later g c name told so = c.loop-unit.invariant.0 name told (c.in_err-of_unit.ensures.later name told so)

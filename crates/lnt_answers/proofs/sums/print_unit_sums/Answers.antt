@@ -23,3 +23,6 @@ returns-in_err-of_file-clause-begun g c =
 
 pub returns-in_err-of_file-clause-opened : goal.returns-in_err-of_file-clause-opened
 returns-in_err-of_file-clause-opened g c = opens_then _ _ _ _ c.loop-file.invariant.2 c.in_err-of_file.ensures.opened
+
+pub returns-in_err-of_file-clause-later : goal.returns-in_err-of_file-clause-later
+returns-in_err-of_file-clause-later g c name told so = c.loop-file.invariant.0 name told (c.in_err-of_file.ensures.later name told so)

@@ -23,7 +23,7 @@ returns-clause-stop g c =
     words_stopped (g.O.Files.finds c.args.opener.now) (map string_bytes c.args.words.items) c.in-Ok.asked
     (g.W.Write.contents c.args.out.now) (g.W.Write.contents c.answer.new.out) c.answer.result c.map_err.result c.map_err.ensures.cases
     (rw c.as_slice.ensures.value at (rw c.in-Ok.is at c.request_of.ensures.asked))
-    c.answer.ensures.named c.answer.ensures.too_long c.answer.ensures.stopped
+    c.answer.ensures.named c.answer.ensures.cause c.answer.ensures.stopped
 
 pub returns-clause-refused : goal.returns-clause-refused
 returns-clause-refused g c =

@@ -1,36 +1,24 @@
 use Rattle.std.proofs.lemmas.Result.{IfOk-weaker}
-use Rattle.lnt_cli.proofs.CauseLemmas.{long_found}
+use Rattle.lnt_cli.proofs.CauseLemmas.{failed_once, long_found}
 use Rattle.lnt_cli.proofs.StopLemmas.{begun_of}
 use Rattle.lnt_cli.proofs.reading.print_file.Goals as goal
 
-pub returns-in-Section-clause-answer : goal.returns-in-Section-clause-answer
-returns-in-Section-clause-answer g c =
-    rw c.in-Section.is
-    (IfOk-weaker c.print_reading.result _ _ (λ status so. record { bytes = _; is_found = c.in_ok-source.ensures.found; so = so })
-    c.print_reading.ensures.printed)
-
-pub returns-in-Section-clause-stopped : goal.returns-in-Section-clause-stopped
-returns-in-Section-clause-stopped g c =
-    rw c.in-Section.is
-    (begun_of _ _ _ c.print_reading.result c.print_reading.ensures.begun
-    (λ begun. record { bytes = _; is_found = c.in_ok-source.ensures.found; so = begun }))
-
-pub returns-in-Section-clause-too_long : goal.returns-in-Section-clause-too_long
-returns-in-Section-clause-too_long g c =
-    λ stop. long_found _ _ _ _ c.in_ok-source.ensures.found c.in_ok-source.ensures.left (c.print_reading.ensures.too_long stop)
-
 pub returns-clause-answer : goal.returns-clause-answer
 returns-clause-answer g c =
-    rw c.in-Symbols.is
-    (IfOk-weaker c.print_symbols.result _ _ (λ status so. record { bytes = _; is_found = c.in_ok-source.ensures.found; so = so })
-    c.print_symbols.ensures.printed)
+    IfOk-weaker c.print_source-printed.result _ _ (λ status so. record { bytes = _; is_found = c.in_ok-source.ensures.found; so = so })
+    c.print_source-printed.ensures.printed
 
 pub returns-clause-stopped : goal.returns-clause-stopped
 returns-clause-stopped g c =
-    rw c.in-Symbols.is
-    (begun_of _ _ _ c.print_symbols.result c.print_symbols.ensures.begun
-    (λ begun. record { bytes = _; is_found = c.in_ok-source.ensures.found; so = begun }))
+    begun_of _ _ _ c.print_source-printed.result c.print_source-printed.ensures.begun
+    (λ begun. record { bytes = _; is_found = c.in_ok-source.ensures.found; so = begun })
+
+pub returns-clause-unread : goal.returns-clause-unread
+returns-clause-unread g c stop =
+    let failures = c.print_source-printed.ensures.failures in
+    failed_once (g.O.Files.finds c.args.opener.now) c.args.file.now _ _ _ _ (failures.read stop) failures.name c.in_ok-source.ensures.name
+    (λ failed. c.open.ensures.later _ _ (c.tell_unread.ensures.unread failed))
 
 pub returns-clause-too_long : goal.returns-clause-too_long
-returns-clause-too_long g c =
-    λ stop. long_found _ _ _ _ c.in_ok-source.ensures.found c.in_ok-source.ensures.left (c.print_symbols.ensures.too_long stop)
+returns-clause-too_long g c stop =
+    long_found _ _ _ _ c.in_ok-source.ensures.found c.in_ok-source.ensures.left (c.print_source-printed.ensures.too_long stop)

@@ -9,10 +9,10 @@ returns-clause-answer g c =
     let printed = rw (c.bytes-size.ensures, same) at (rw c.in_ok-status.ensures.ok at c.print_upgraded-printed.ensures.printed) in
     record {
       bytes = c.in_ok-bytes.bytes.items;
-      of_section = rw c.in_ok-bytes.ensures.ok at c.read_whole-read.ensures.bytes;
+      of_section = rw c.in_ok-bytes.ensures.ok at c.bytes_of_file-read.ensures.bytes;
       text = option_map (λ text. text.items) c.in_ok-text.text;
-      of_directories = text_before (g.O.Files.finds c.args.opener.now) (g.O.Files.finds c.read_whole-read.new.opener) _ _
-          c.read_whole-read.ensures.later c.in_ok-text.ensures.text;
+      of_directories = text_before (g.O.Files.finds c.args.opener.now) (g.O.Files.finds c.bytes_of_file-read.new.opener) _ _
+          c.bytes_of_file-read.ensures.later c.in_ok-text.ensures.text;
       so = rw c.plain.ensures (told_of c.args.from.now.order (size_bytes c.args.from.now.address_size) _ _ _
           (g.W.Write.contents c.args.out.now) (g.W.Write.contents c.print_upgraded-printed.new.out) c.in_ok-status.status
           c.deref.ensures.value printed);

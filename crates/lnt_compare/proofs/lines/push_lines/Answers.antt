@@ -14,6 +14,7 @@ loop-last-init g c = (
   rw c.new-last.ensures.items (All-nil IsPlainByte),
   passes_none _ _ _,
   lines_none _ _ _ _ _ _,
+  refl,
 )
 
 pub returns-then-not-branch-clause-ok : goal.returns-then-not-branch-clause-ok
@@ -32,6 +33,7 @@ loop-last-preserved-in_default g c =
       c.in_ok-length.ensures.plain,
       filled _ _ _ _ _ _ _ _ _ inv.0 inv.4 c.in_ok-grow.ensures.taken,
       rw same inv.5,
+      c.in_ok-grow.ensures.failures.name ∙ inv.6,
     )
 
 pub loop-last-preserved : goal.loop-last-preserved
@@ -45,6 +47,7 @@ loop-last-preserved g c =
       c.in_ok-length.ensures.plain,
       rw c.pass.ensures (passes_line _ _ _ _ _ _ _ inv.0 _ inv.4 line.joined),
       lines_taken _ _ _ _ _ _ _ inv.0 _ _ _ _ _ taken.0 inv.5 line taken.2 c.in_ok-number.ensures.next,
+      inv.6,
     )
 
 pub loop-last-smaller-in_default : goal.loop-last-smaller-in_default

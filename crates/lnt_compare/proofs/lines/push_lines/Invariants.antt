@@ -10,6 +10,7 @@ invariant-loop-last g l = (text : List ℕ) × (g.T.Source.failures l.source ≡
     (g.T.Source.left l.source) l.initial.window l.window text
     × HasTakenLines g.L.LineTelling.format g.L.LineTelling.plain (g.L.LineTelling.version l.telling) (g.L.TakesRecords.judges l.telling)
     l.initial.state l.state text l.fn.number l.number
+    × (g.T.Source.name l.source ≡ g.T.Source.name l.initial.source)
 
 abbrev pub decreases-loop-last : goal.decreases-loop-last
 decreases-loop-last g l = length l.window + 2 * g.T.Source.left l.source

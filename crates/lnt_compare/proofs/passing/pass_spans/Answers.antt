@@ -14,6 +14,7 @@ loop-joined-init g c = (
   passes_none _ _ _,
   no_lines_of _ _ _ _,
   λ list come order. (left_first _ _ list (c.of-joined.ensures list come) order, refl),
+  refl,
 )
 
 pub returns-then-not-branch-clause-ok : goal.returns-then-not-branch-clause-ok
@@ -46,4 +47,5 @@ loop-joined-preserved g c =
       λ list come order. let off = inv.6 list come order in
           let more = left_more _ _ _ list inv.1 c.in-Some.span off.0 left in
           (more, answered_pushed inv.1 more.rest c.in-Some.span _ _ more.order off.1 c.add_between.ensures),
+      c.in_ok-pass_line.ensures.failures.name ∙ inv.7,
     )

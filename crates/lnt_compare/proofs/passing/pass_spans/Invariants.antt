@@ -17,6 +17,7 @@ invariant-loop-joined g l = (text : List ℕ) × (table : List Span)
     × ((list : List Span) → g.S.SpanSource.to_come l.fn.spans list → AreInOrder list
     → LeaveOff (g.L.Telling.tell l.telling) (SpansAreLeft g.S.SpanSource.to_come l.joined.next l.joined.spans) list table
     × (l.answered ≡ addresses_of table))
+    × (g.T.Source.name l.source ≡ g.T.Source.name l.initial.source)
 
 abbrev pub decreases-loop-joined : goal.decreases-loop-joined
 decreases-loop-joined g l = count_ahead l.joined.next (g.S.SpanSource.left l.joined.spans)

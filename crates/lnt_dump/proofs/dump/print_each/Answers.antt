@@ -9,6 +9,7 @@ pub loop-page-init : goal.loop-page-init
 loop-page-init g c = record {
   reading = c.requires.reading;
   failures = refl;
+  name = refl;
   left = omega (arith, c.requires.offset);
   same_reference = refl;
   printed = units_none c.requires.order c.requires.offset refl;
@@ -49,6 +50,7 @@ loop-page-preserved g c =
     record {
       reading = search rules;
       failures = grind (arith, common_steps);
+      name = c.in_ok-unit.ensures.failures.name ∙ c.loop-page.invariant.name;
       left = omega (arith, left, c.loop-page.invariant.left);
       same_reference = c.in_ok-unit.ensures.same_reference ∙ c.loop-page.invariant.same_reference;
       printed = units_more c.in_ok-unit.ensures.order c.loop-page.invariant.printed (next_framed c.in-Unit.is c.in_ok-unit.ensures.next

@@ -9,6 +9,7 @@ pub loop-unit-init : goal.loop-unit-init
 loop-unit-init g c = record {
   reading = c.requires.reading;
   failures = refl;
+  name = refl;
   left = omega (arith, c.requires.offset);
   same_reference = refl;
   printed = frames_none c.requires.order c.requires.offset refl;
@@ -20,6 +21,7 @@ loop-unit-preserved g c =
     record {
       reading = search rules;
       failures = grind (arith, common_steps);
+      name = c.in_ok-unit.ensures.failures.name ∙ c.loop-unit.invariant.name;
       left = omega (arith, left, c.loop-unit.invariant.left);
       same_reference = c.in_ok-unit.ensures.same_reference ∙ c.loop-unit.invariant.same_reference;
       printed = frames_more c.in_ok-unit.ensures.order c.loop-unit.invariant.printed (next_framed c.in-Unit.is c.in_ok-unit.ensures.next

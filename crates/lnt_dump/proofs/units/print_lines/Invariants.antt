@@ -8,6 +8,7 @@ abbrev pub invariant-loop-unit : goal.invariant-loop-unit
 invariant-loop-unit g l = record {
   reading : progress_of l.reader ≡ Reading;
   failures : g.R.Source.failures (source_of l.reader) ≡ g.R.Source.failures (source_of l.fn.reader);
+  name : g.R.Source.name (source_of l.reader) ≡ g.R.Source.name (source_of l.fn.reader);
   left : g.R.Source.left (source_of l.reader) + offset_of l.reader ≡ g.R.Source.left (source_of l.fn.reader);
   same_reference : loan_of l.reader ≡ loan_of l.fn.reader;
   printed : FramesPrinted l.fn.order (g.R.Source.remaining (source_of l.fn.reader)) (g.R.Source.remaining (source_of l.reader))

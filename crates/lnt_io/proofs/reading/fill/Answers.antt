@@ -7,6 +7,7 @@ pub loop-filled-preserved : goal.loop-filled-preserved
 loop-filled-preserved g c = record {
   bound = grind (arith, common_steps);
   failures = grind (arith, common_steps);
+  name = grind (arith, common_steps);
   left = grind (arith, common_steps);
   pulls =
       pulls_filled _ _ _ c.loop-filled.filled c.in_ok-count.count c.loop-filled.room c.pull.new.buf _ c.loop-filled.invariant.pulls

@@ -50,6 +50,7 @@ loop-buffer-preserved g c =
       order_is = step.order ∙ inv.order_is;
       reading = goes_on.0;
       failures = grind (arith, common_steps);
+      name = step.failures.name ∙ inv.name;
       left = omega (arith, left, goes_on.1, inv.left);
       same_reference = step.same_reference ∙ inv.same_reference;
     }

@@ -11,6 +11,7 @@ invariant-loop-buffer g l = record {
   order_is : order_of l.reader ≡ l.options.order;
   reading : progress_of l.reader ≡ Reading;
   failures : g.R.Source.failures (source_of l.reader) ≡ g.R.Source.failures (source_of l.fn.reader);
+  name : g.R.Source.name (source_of l.reader) ≡ g.R.Source.name (source_of l.fn.reader);
   left : g.R.Source.left (source_of l.reader) + (offset_of l.reader) ≡ g.R.Source.left (source_of l.fn.reader);
   same_reference : loan_of l.reader ≡ loan_of l.fn.reader;
 }

@@ -10,6 +10,7 @@ pub loop-left-init : goal.loop-left-init
 loop-left-init g c = record {
   base = c.new-reader.ensures.base;
   failures = refl;
+  name = refl;
   passes = ([], passes_none _ _ _);
   read = λ more e later f. subst (λ (t : List ℕ). HasRead (c.args.window ++ more) c.new-reader.result (lines_of (c.args.window ++ t)))
       (same_Some more later (sym e ∙ f)) (c.new-reader.ensures.read (c.args.window ++ more));
@@ -35,6 +36,7 @@ loop-left-preserved g c =
     record {
       base = c.in-Ok.ensures.base ∙ inv.base;
       failures = c.in_default.ensures.failures.no_failure (λ e. cc e) ∙ inv.failures;
+      name = c.in_default.ensures.failures.name ∙ inv.name;
       passes = (
         _,
         passes_both _ _ _ _ _ _ _ _ _ _ _
