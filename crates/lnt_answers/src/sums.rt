@@ -131,7 +131,7 @@ fn found_of<O: Files>(
     match md5_agrees(&mut file, listed) {
         Ok(agreement) => Ok(Some(agreement)),
         Err(_) => {
-            opener.could_not_read(&file);
+            file.tell_unread(opener);
             Ok(None)
         }
     }

@@ -1,7 +1,7 @@
 -- How a run was stopped, and the files that a request names.
 use Rattle.std.specs.Prelude.{◌≡◌, ◌≢◌, ◌⊎◌, ◌+◌, ◌<◌, ℕ, IfSome, IsErrAnd, IsTrue, List, Option, Result, Some, string_bytes}
 use Rattle.std.specs.Prelude.{Bool, option_copied, false}
-use Rattle.lnt_io.specs.Files.{FileState, IsTooLongFile, IsUnreadFile, Readable, RefusesOnly}
+use Rattle.lnt_io.specs.Files.{FileState, IsTooLongFile, IsUnreadFile, Readable, RefusesOnly, Unread}
 use Rattle.lnt_io.specs.Stopping.{IsFoundTooLong}
 use Rattle.lnt_io.specs.declared.source.Source.{Ghosts}
 use Rattle.lnt_io.specs.declared.io_stop.IoStop.{IoStop}
@@ -87,19 +87,21 @@ IsOfCause HasFailed IsLong _ = Unit {0}
 abbrev pub TellsCause : (List ℕ → FileState → Type 0) → (List ℕ → Type 0) → FileStop → Type 0
 TellsCause finds IsLong stop = IsOfCause (λ name. IsUnreadFile (finds name)) IsLong stop
 
--- the same if the one that is told as too long has more than 2^40 bytes, if its bytes are known
+-- the same if the one that is told as too long can't be read whole, and has more than 2^40 bytes, if its bytes are known
 abbrev pub TellsFile : (List ℕ → FileState → Type 0) → FileStop → Type 0
 TellsFile finds stop = TellsCause finds (λ name. IsTooLongFile (finds name)) stop
 
--- One of these files has more than 2^40 bytes, if its bytes are known.
-pub record IsOneTooLong (finds : List ℕ → FileState → Type 0) (AreThese : List ℕ → Type 0) : Type 0 where
+-- The file with this name (told) can't be read whole, and one of these has more than 2^40 bytes, if its bytes are known.
+pub record IsOneTooLong (finds : List ℕ → FileState → Type 0) (AreThese : List ℕ → Type 0) (told : List ℕ) : Type 0 where
+  pub unread : finds told Unread
   pub name : List ℕ
   pub is_one : AreThese name
   pub is_long : IsTooLongFile (finds name)
 
--- The file with this name has more than 2^40 bytes, if its bytes are known; for a check without --all, one of its files has.
+-- The file with this name can't be read whole, and has more than 2^40 bytes, if its bytes are known; for a check without --all, one of
+-- its files has.
 abbrev pub IsLongWith : (List ℕ → FileState → Type 0) → Judging → List ℕ → FileQuestion → List ℕ → Type 0
-IsLongWith finds from file (Check false ends partial at_least any_copy) name = IsOneTooLong finds (IsFileOfBoth from file)
+IsLongWith finds from file (Check false ends partial at_least any_copy) name = IsOneTooLong finds (IsFileOfBoth from file) name
 IsLongWith finds from file question name = IsTooLongFile (finds name)
 
 -- the same of a file that a stop of this request tells as too long
@@ -142,40 +144,40 @@ IsFileStop io_stop.TooLong name stop = ⊥
 IsFileStop io_stop.Write name stop = stop ≡ Write
 IsFileStop io_stop.Memory name stop = stop ≡ Memory
 
--- One more read of the source failed, which is of the same file as before; and the file that is told (told) is the source's (name).
-pub record FailedOnce {R : Type 0} (source : Ghosts R) (old new : R) (name told : List ℕ) : Type 0 where
+-- The file that is told (told) is the source's (name), for this reason. The source was before the work (old) and is after it (new), and
+-- is of the same file as before.
+pub record IsToldFor {R : Type 0} (source : Ghosts R) (old new : R) (name told : List ℕ) (Reason : Type 0) : Type 0 where
   pub named : name ≡ told
-  pub once : source.failures new ≡ source.failures old + 1
   pub same : source.name new ≡ source.name old
+  pub reason : Reason
 
--- the same of a source that has failed
-pub record HasFailed {R : Type 0} (source : Ghosts R) (old new : R) (name told : List ℕ) : Type 0 where
-  pub named : told ≡ name
-  pub some : 0 < source.failures new
-  pub same : source.name new ≡ source.name old
+-- since one more read of the source failed
+abbrev pub IsToldUnread : {R : Type 0} → Ghosts R → R → R → List ℕ → List ℕ → Type 0
+IsToldUnread source old new name told = IsToldFor source old new name told (source.failures new ≡ source.failures old + 1)
 
--- The stop names the source's file (name) for a read of the source that failed, or since it was found too long. The source was
--- before the work (old) and is after it (new).
+-- since it was found to have more bytes than it may give
+abbrev pub IsToldLong : {R : Type 0} → Ghosts R → R → R → List ℕ → List ℕ → Type 0
+IsToldLong source old new name told =
+    IsToldFor source old new name told (IsFoundTooLong (source.too_long new) (source.remaining old) (source.left old))
+
+-- The stop names the source's file (name), since a read of it failed, or since it was found too long.
 abbrev pub IsCausedBy : {R : Type 0} → Ghosts R → R → R → List ℕ → FileStop → Type 0
-IsCausedBy source old new name = IsOfCause
-    (FailedOnce source old new name)
-    (λ file. (name ≡ file) × IsFoundTooLong (source.too_long new) (source.remaining old) (source.left old))
+IsCausedBy source old new name = IsOfCause (IsToldUnread source old new name) (IsToldLong source old new name)
 
 -- the same of the work on one source and then on another one
 abbrev pub IsCausedByEither : {R T : Type 0} → Ghosts R → R → R → List ℕ → Ghosts T → T → T → List ℕ → FileStop → Type 0
 IsCausedByEither first old new name second was is other = IsOfCause
-    (λ file. FailedOnce first old new name file ⊎ FailedOnce second was is other file)
-    (λ file. ((name ≡ file) × IsFoundTooLong (first.too_long new) (first.remaining old) (first.left old))
-    ⊎ ((other ≡ file) × IsFoundTooLong (second.too_long is) (second.remaining was) (second.left was)))
+    (λ file. IsToldUnread first old new name file ⊎ IsToldUnread second was is other file)
+    (λ file. IsToldLong first old new name file ⊎ IsToldLong second was is other file)
 
--- The same of a check, whose two sources hadn't failed before. The file that is told as too long is that of a source that was found so,
--- and one of both has more bytes than it may give.
+-- The same of a check. The file that is told as too long is that of a source that was found so, and one of both has more bytes than it
+-- may give.
 abbrev pub IsCausedInCheck : {R T : Type 0} → Ghosts R → R → R → List ℕ → Ghosts T → T → T → List ℕ → FileStop → Type 0
 IsCausedInCheck first old new name second was is other = IsOfCause
-    (λ file. HasFailed first old new name file ⊎ HasFailed second was is other file)
-    (λ file. (((file ≡ name) × IsTrue (first.too_long new)) ⊎ ((file ≡ other) × IsTrue (second.too_long is)))
-    × (IsFoundTooLong (first.too_long new) (first.remaining old) (first.left old)
-    ⊎ IsFoundTooLong (second.too_long is) (second.remaining was) (second.left was)))
+    (λ file. IsToldUnread first old new name file ⊎ IsToldUnread second was is other file)
+    (λ file. (IsToldFor first old new name file (IsTrue (first.too_long new))
+    ⊎ IsToldFor second was is other file (IsTrue (second.too_long is)))
+    × (IsToldLong first old new name name ⊎ IsToldLong second was is other other))
 
 -- the same of the question about a section and a file
 abbrev pub IsCausedWith : {R T : Type 0} → FileQuestion → Ghosts R → R → R → List ℕ → Ghosts T → T → T → List ℕ → FileStop → Type 0

@@ -41,10 +41,10 @@ pub fn run<O: Files, W: Write>(
 ///
 /// A run stops with `Usage` only if the words ask for nothing (`AskForNothing`), before a file is opened and with nothing
 /// written; with `Read` or `TooLong` for a file that the words name (`NameFile`), with `Read` only for one that can't be opened or
-/// of which a read failed, and with `TooLong` only for one of more than 2^40 bytes, as `IsLongIn` says (`TellsCause`); with `Write`
-/// if `out` failed, after a prefix of the text; and with `Memory` (`IsStopOf`). What [`answer`] states was written if it stops. If
-/// the opener refuses a file, it stops with `Read` and that file's name, and for no other reason (`NameUnreadable`), except once it
-/// judges listed sums.
+/// of which a read failed, and with `TooLong` only for one that couldn't be read whole and has more than 2^40 bytes; of a check
+/// without `--all` one of both files has (`TellsCause`, `IsLongIn`); with `Write` if `out` failed, after a prefix of the text; and
+/// with `Memory` (`IsStopOf`). What [`answer`] states was written if it stops. If the opener refuses a file, it stops with `Read` and
+/// that file's name, and for no other reason (`NameUnreadable`), except once it judges listed sums.
 ///
 /// Advice for a person is written to `notes`, to be shown after the answer: a line for each note, which begins with `linetab: note: `
 /// and has no other line feed, and nothing else (`WritesNotes`). It is nothing if the words ask for no notes. A run doesn't stop if
@@ -90,9 +90,10 @@ pub fn run_with_notes<O: Files, W: Write, N: Write>(
 ///
 /// If it stops, a prefix of an answer has been written, and nothing else (`IsStopped`). It stops with `Read` or `TooLong` for a
 /// file that the request names (`IsFileIn`), with `Read` only if it can't be opened or a read of it failed, and with `TooLong` only
-/// if it has more than 2^40 bytes, as `IsLongIn` says (`TellsCause`); with `Write` if `out` failed; and with `Memory`. If the opener
-/// refuses a file, it stops with `Read` and that file's name (`IsNamedUnreadable`). Listed sums are the exception: once the section
-/// is open, a listed file that is refused is part of the answer.
+/// if it couldn't be read whole and has more than 2^40 bytes; of a check without `--all` one of both files has (`TellsCause`,
+/// `IsLongIn`); with `Write` if `out` failed; and with `Memory`. If the opener refuses a file, it stops with `Read` and that file's
+/// name (`IsNamedUnreadable`). Listed sums are the exception: once the section is open, a listed file that is refused is part of the
+/// answer.
 pub fn answer<O: Files, W: Write, N: Write>(
     alloc: Global,
     asked: &Asked<'_>,

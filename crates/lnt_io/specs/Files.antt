@@ -28,8 +28,9 @@ pub record AreBytesOf (finds : FileState → Type 0) (bytes : List ℕ) : Type 0
   pub is_found : finds (Readable found)
   pub same : IfSome found (λ all. bytes ≡ all)
 
--- A file of which this may be known has more than 2^40 bytes, if its bytes are known.
+-- A file of which this may be known can't be read whole, and has more than 2^40 bytes, if its bytes are known.
 pub record IsTooLongFile (finds : FileState → Type 0) : Type 0 where
+  pub unread : finds Unread
   pub found : Option (List ℕ)
   pub is_found : finds (Readable found)
   pub more : HasMoreThan found (2 ^ 40)

@@ -1,5 +1,5 @@
 -- What a call that pulls from a source says of it where it stops. The source is old before the call and new after it.
-use Rattle.std.specs.Prelude.{◌≡◌, ◌≢◌, ℕ, ◌+◌, ◌⊎◌, Bool, IsTrue, List, Option, Result, Err, IsErrOf}
+use Rattle.std.specs.Prelude.{◌≡◌, ◌≢◌, ℕ, ◌+◌, ◌<◌, ◌⊎◌, Bool, IsTrue, List, Option, Result, Err, IsErrOf}
 use Rattle.lnt_io.specs.declared.source.Source.{Ghosts}
 use Rattle.lnt_io.specs.Pulling.{HasMoreThan}
 
@@ -17,6 +17,10 @@ pub record IsFoundTooLong (found : Bool) (remaining : Option (List ℕ)) (left :
 -- The source is too long if the call stopped with stop.
 abbrev pub IsTooLongOn : {R : Type 0} → Ghosts R → R → R → {C E : Type 0} → Result C E → E → Type 0
 IsTooLongOn source old new answer stop = IsErrOf answer stop → IsFoundTooLong (source.too_long new) (source.remaining old) (source.left old)
+
+-- A read of the source failed, or it was found too long. So it doesn't give all its bytes.
+abbrev pub IsCutShort : {R : Type 0} → Ghosts R → R → Type 0
+IsCutShort source now = (0 < source.failures now) ⊎ IsTrue (source.too_long now)
 
 -- ---- of two sources, the second of which was before the call and is after it
 

@@ -1,7 +1,8 @@
 //! Files by their names, as the command reads them.
-ghost use Rattle.std.specs.Prelude.{◌≡◌, ◌≢◌, ◌^◌, ◌<◌, ◌⊎◌, ℕ, List, IfOk, IfErr, IfSome, IsErrOf, IsNone, IsTrue, ⊤, false};
+ghost use Rattle.std.specs.Prelude.{◌≡◌, ◌≢◌, ◌^◌, ℕ, List, IfOk, IfErr, IfSome, IsErrOf, IsNone, ⊤, false};
 ghost use Rattle.lnt_io.specs.Files.{AreBytesOf, FileState, Readable, RefusesOnly, FindsNoMore, Unread, Unreadable};
 ghost use Rattle.lnt_io.specs.Files.{IsTooLongFile, IsUnreadFile, OpensOnce, OpensOnly, OrUnread};
+ghost use Rattle.lnt_io.specs.Stopping.{IsCutShort};
 ghost use Rattle.lnt_io.specs.declared.io_stop.IoStop.TheVariants.{Write};
 
 use crate::io_stop::IoStop;
@@ -36,8 +37,7 @@ pub trait Files {
 
     /// Takes note that a file couldn't be read whole: its source failed, or was found too long.
     fn could_not_read<'n, V: Watcher>(&mut self, file: &OpenedFile<'n, Self::Reader, V>)
-        requires { 0 < ⟦<OpenedFile<'n, Self::Reader, V> as Source>⟧.failures file.now
-            ⊎ IsTrue (⟦<OpenedFile<'n, Self::Reader, V> as Source>⟧.too_long file.now) }
+        requires { IsCutShort ⟦<OpenedFile<'n, Self::Reader, V> as Source>⟧ file.now }
         ensures unread { finds self.old (⟦<OpenedFile<'n, Self::Reader, V> as Source>⟧.name file.now) Unread }
         ensures later { FindsNoMore (finds self.old) (finds self.new) }
         ensures refused { RefusesOnly (λ _. ⊥) (refused self.old) (refused self.new) }
@@ -104,7 +104,7 @@ pub fn source_of<R: Read + Drop>(
 /// All bytes of the file with this name, as the opener says them. It is opened once, and its bytes are shown to the watcher.
 ///
 /// Fails with `Read` only if the file can't be opened or read, of which the opener takes note; with `TooLong` only if it has more
-/// bytes than the limit; and with `Memory`; never with `Write`.
+/// bytes than the limit, of which the opener takes note too; and with `Memory`; never with `Write`.
 pub fn bytes_of_file<O: Files, V: Watcher + Drop>(
     alloc: Global,
     opener: &mut O,

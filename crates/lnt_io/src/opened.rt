@@ -1,7 +1,8 @@
 //! A file that is read, and its name.
-ghost use Rattle.std.specs.Prelude.{◌≡◌, ◌^◌, ◌<◌, IfErr, IfOk, IsErrOf, false};
+ghost use Rattle.std.specs.Prelude.{◌≡◌, ◌^◌, IfErr, IfOk, IsErrOf, false};
 ghost use Rattle.lnt_io.specs.Files.{FindsNoMore, OpensOnly, OpensOnce, Readable, RefusesOnly, Unread, Unreadable};
 ghost use Rattle.lnt_io.specs.IoStops.{IsOpening};
+ghost use Rattle.lnt_io.specs.Stopping.{IsCutShort};
 
 use crate::source::{ReadFault, Source};
 use crate::watcher::{WatchedReader, Watcher};
@@ -50,7 +51,7 @@ impl<'n, R: Read + Drop, V: Watcher + Drop> OpenedFile<'n, R, V> {
 
     /// Has the opener take note if the file couldn't be read whole: if this source failed, or was found too long.
     pub fn tell_unread<O: Files<Reader = R>>(&self, opener: &mut O)
-        ensures unread { 0 < ⟦<OpenedFile<'n, R, V> as Source>⟧.failures self.now
+        ensures unread { IsCutShort ⟦<OpenedFile<'n, R, V> as Source>⟧ self.now
             → O.finds opener.old (⟦<OpenedFile<'n, R, V> as Source>⟧.name self.now) Unread }
         ensures later { FindsNoMore (O.finds opener.old) (O.finds opener.new) }
         ensures refused { RefusesOnly (λ _. ⊥) (O.refused opener.old) (O.refused opener.new) }

@@ -44,11 +44,11 @@ returns-clause-cause g c =
       name = files.name;
       found = files.found;
       left = files.left;
-      unread = λ some. earlier _ _ (other.later _ _ (c.tell_unread.ensures.unread some));
+      unread = λ cut. earlier _ _ (other.later _ _ (c.tell_unread.ensures.unread cut));
     }) (record {
       name = other.name;
       found = earlier _ _ other.found;
       left = other.left;
-      unread = λ some.
-          earlier _ _ (other.later _ _ (c.tell_unread.ensures.later _ _ (c.tell_unread-2.ensures.unread some)));
+      unread = λ cut.
+          earlier _ _ (other.later _ _ (c.tell_unread.ensures.later _ _ (c.tell_unread-2.ensures.unread cut)));
     }))

@@ -36,6 +36,6 @@ returns-clause-cause g c =
       name = files.name;
       found = files.found;
       left = files.left;
-      unread = λ some.
-          c.open_judged.ensures.later _ _ (c.answer_opened-answered.ensures.later _ _ (c.tell_unread.ensures.unread some));
+      unread = λ cut.
+          c.open_judged.ensures.later _ _ (c.answer_opened-answered.ensures.later _ _ (c.tell_unread.ensures.unread cut));
     }))

@@ -1,5 +1,5 @@
 use Rattle.std.proofs.lemmas.Result.{IfOk-weaker}
-use Rattle.lnt_cli.proofs.CauseLemmas.{failed_once, long_found}
+use Rattle.lnt_cli.proofs.CauseLemmas.{found_too_long, read_failed}
 use Rattle.lnt_cli.proofs.StopLemmas.{begun_of}
 use Rattle.lnt_cli.proofs.reading.print_file.Goals as goal
 
@@ -15,10 +15,22 @@ returns-clause-stopped g c =
 
 pub returns-clause-unread : goal.returns-clause-unread
 returns-clause-unread g c stop =
-    let failures = c.print_source-printed.ensures.failures in
-    failed_once (g.O.Files.finds c.args.opener.now) c.args.file.now _ _ _ _ (failures.read stop) failures.name c.in_ok-source.ensures.name
-    (λ failed. c.open.ensures.later _ _ (c.tell_unread.ensures.unread failed))
+    let file = c.in_ok-source.ensures in
+    read_failed (g.O.Files.finds c.args.opener.now) c.args.file.now _ _ _ _ _ c.print_source-printed.ensures.failures stop
+    (record {
+      name = file.name;
+      found = file.found;
+      left = file.left;
+      unread = λ cut. c.open.ensures.later _ _ (c.tell_unread.ensures.unread cut);
+    })
 
 pub returns-clause-too_long : goal.returns-clause-too_long
 returns-clause-too_long g c stop =
-    long_found _ _ _ _ c.in_ok-source.ensures.found c.in_ok-source.ensures.left (c.print_source-printed.ensures.too_long stop)
+    let file = c.in_ok-source.ensures in
+    found_too_long (g.O.Files.finds c.args.opener.now) c.args.file.now _ _ _ _ _ c.print_source-printed.ensures.failures
+    (c.print_source-printed.ensures.too_long stop) (record {
+      name = file.name;
+      found = file.found;
+      left = file.left;
+      unread = λ cut. c.open.ensures.later _ _ (c.tell_unread.ensures.unread cut);
+    })
