@@ -71,7 +71,7 @@ pub(crate) fn pass_program(view: &UnitInPlace<'_>, passed: &mut Vec<Passed>) -> 
         begun: Begun::none(),
     };
     let mut ops = view.ops();
-    while let Some(op) = ops.next() {
+    while let Some(op) = ops.next_long() {
         let Ok(op) = op else {
             return false;
         };

@@ -126,18 +126,14 @@ impl<'a> Ops<'a> {
         self.rest = past;
         Some(view)
     }
-}
 
-impl<'a> Iterator for Ops<'a> {
-    type Item = Result<OpView<'a>, Fault>;
-
-    ghost next_gives = { WalkStep };
-
-    ghost remaining = { λ walk. at_most (if walk.failed then 0 else length walk.at.rest) };
-
+    /// The operation that `next` gives, if `next_short` has given none, or `None` at the end: so it isn't looked for again. Gives short
+    /// operations too.
     #[inline(always)]
     #[tactic(auto, using(crate::proofs::WalkLemmas::walk_lemmas))]
-    fn next(&mut self) -> Option<Result<OpView<'a>, Fault>> {
+    pub fn next_long(&mut self) -> Option<Result<OpView<'a>, Fault>>
+        ensures steps { WalkStep self.old result self.new }
+    {
         if self.failed || self.rest.is_empty() {
             return None;
         }
@@ -152,6 +148,22 @@ impl<'a> Iterator for Ops<'a> {
                 self.failed = true;
                 Some(Err(fault))
             }
+        }
+    }
+}
+
+impl<'a> Iterator for Ops<'a> {
+    type Item = Result<OpView<'a>, Fault>;
+
+    ghost next_gives = { WalkStep };
+
+    ghost remaining = { λ walk. at_most (if walk.failed then 0 else length walk.at.rest) };
+
+    #[inline(always)]
+    fn next(&mut self) -> Option<Result<OpView<'a>, Fault>> {
+        match self.next_short() {
+            Some(view) => Some(Ok(view)),
+            None => self.next_long(),
         }
     }
 }

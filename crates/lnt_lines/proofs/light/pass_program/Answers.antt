@@ -36,7 +36,7 @@ loop-op-preserved c =
         c.step.ensures.length,
       ),
       λ dead. c.step_short.ensures.passes c.if-not-step_short.false dead view
-          (c.step.ensures.passes c.if-not-step.false dead view c.loop-op.ops c.next.new.self (c.loop-op.invariant.2 dead) gives fits
+          (c.step.ensures.passes c.if-not-step.false dead view c.loop-op.ops c.next_long.new.self (c.loop-op.invariant.2 dead) gives fits
           c.left.ensures) stepped,
       record {
         room = fits.room;

@@ -30,7 +30,7 @@ returns-in_err-op-clause-err c =
     let view = c.args.view.now in
     let fault = c.in_err-op.field-0.0 in
     let broken : BrokenUnit view.unit.order fault view.unit.offset view.unit.bytes =
-    given_broken view c.loop-op.invariant.0.ops fault c.loop-op.ops c.next.new.self c.ops-ops.ensures.is_header
+    given_broken view c.loop-op.invariant.0.ops fault c.loop-op.ops c.next_long.new.self c.ops-ops.ensures.is_header
     c.ops-ops.ensures.is_view c.loop-op.invariant.0.given (fails_op c.in_err-op.was c.in-Some.ensures.steps) in
     rw p.1 (λ text general. fault_refused text general c.args.dead view.unit fault p.0 p.2 (λ _. broken))
 
@@ -39,7 +39,7 @@ returns-in-Err-clause-err c =
     let view = c.args.view.now in
     run_refused c.args.dead view c.args.unit c.in-Err.fault c.refusal_for.result
     (λ other. c.in-Err.ensures.err other c.args.dead view c.args.collected.now c.loop-op.ops
-    c.next.new.self c.loop-op.invariant.0 (gives_op c.in_ok-op.was c.in-Some.ensures.steps))
+    c.next_long.new.self c.loop-op.invariant.0 (gives_op c.in_ok-op.was c.in-Some.ensures.steps))
     c.refusal_for.ensures c.ops-ops.ensures.is_header c.ops-ops.ensures.is_view c.requires.unit
 
 pub returns-in-Err-step_short-clause-err : goal.returns-in-Err-step_short-clause-err
@@ -47,10 +47,10 @@ returns-in-Err-step_short-clause-err c =
     let view = c.args.view.now in
     let size : c.loop-op.watched.length ≡ length view.program = c.loop-op.invariant.1 in
     let room = c.ops-ops.ensures.is_view.room in
-    let ran : RunsSoFar c.args.dead view c.step.new.self c.args.collected.now c.step.new.collected c.next.new.self
+    let ran : RunsSoFar c.args.dead view c.step.new.self c.args.collected.now c.step.new.collected c.next_long.new.self
     c.step.new.places.items =
     c.in_default-step.ensures.goes_on c.args.dead view c.args.collected.now c.loop-op.ops
-    c.next.new.self c.loop-op.invariant.0 (gives_op c.in_ok-op.was c.in-Some.ensures.steps) (room, size) c.left.ensures in
+    c.next_long.new.self c.loop-op.invariant.0 (gives_op c.in_ok-op.was c.in-Some.ensures.steps) (room, size) c.left.ensures in
     run_refused c.args.dead view c.args.unit c.in-Err-step_short.fault c.refusal_for-in-Err-step_short.result
     (λ other. c.in-Err-step_short.ensures.err other c.args.dead view c.args.collected.now ran
     (room, c.in_default-step.ensures.same ∙ size))
@@ -61,10 +61,10 @@ loop-op-preserved c =
     let view = c.args.view.now in
     let size : c.loop-op.watched.length ≡ length view.program = c.loop-op.invariant.1 in
     let room = c.ops-ops.ensures.is_view.room in
-    let ran : RunsSoFar c.args.dead view c.step.new.self c.args.collected.now c.step.new.collected c.next.new.self
+    let ran : RunsSoFar c.args.dead view c.step.new.self c.args.collected.now c.step.new.collected c.next_long.new.self
     c.step.new.places.items =
     c.in_default-step.ensures.goes_on c.args.dead view c.args.collected.now c.loop-op.ops
-    c.next.new.self c.loop-op.invariant.0 (gives_op c.in_ok-op.was c.in-Some.ensures.steps) (room, size) c.left.ensures in
+    c.next_long.new.self c.loop-op.invariant.0 (gives_op c.in_ok-op.was c.in-Some.ensures.steps) (room, size) c.left.ensures in
     let after : c.step.new.self.length ≡ length view.program = c.in_default-step.ensures.same ∙ size in (
       c.in_default-step_short.ensures.goes_on c.args.dead view c.args.collected.now ran
           (room, after),
