@@ -2,6 +2,7 @@ pub mod DecidedLaws
 pub mod DelimitedLemmas
 pub mod DigitLemmas
 pub mod OneTextLaws
+pub mod PairLemmas
 pub mod PutLemmas
 pub mod ReadLemmas
 pub mod TextLaws

@@ -1,5 +1,5 @@
 -- Numbers written from the last digit on.
-use Rattle.std.proofs.Common.{◌≡◌, ◌∙◌, ℕ, zero, suc, ◌+◌, ◌/◌, ◌%◌, ◌^◌, ◌<◌, ◌≤◌, ◌-◌, add-one, List, [], ◌∷◌}
+use Rattle.std.proofs.Common.{◌≡◌, ◌∙◌, ℕ, zero, suc, ◌+◌, ◌*◌, ◌/◌, ◌%◌, ◌^◌, ◌<◌, ◌≤◌, ◌-◌, add-one, List, [], ◌∷◌}
 use Rattle.std.proofs.Common.{length, drop, take, slice_set, length-drop, refl, sym, ap, subst, arith}
 use Rattle.std.proofs.Math.ListN.{length-set}
 use Rattle.std.proofs.Math.Seq.{take-set-lt}
@@ -136,38 +136,62 @@ written_more radix n end old text start left w some =
     grind (arith, common_steps, length-set, take-set-lt, stands_more, take-set-le, drop-set-lt)
 
 -- two digits more
-pub two_digits_more : (n end : ℕ) (old text : List ℕ) (start left : ℕ) → Written Ten n end old text start left → 10 ≤ left
-    → Written Ten n end old (slice_set (slice_set text (start - 1) (digit_code (left % 100 % 10))) (start - 2)
-    (digit_code (left % 100 / 10))) (start - 2) (left / 100)
-two_digits_more n end old text start left w some =
-    let one = written_more Ten n end old text start left w (omega (arith, some)) in
-    let two = written_more Ten n end old (slice_set text (start - 1) (digit_code (left % 10))) (start - 1) (left / 10) one
-    (omega (arith, some)) in
-    let last : left % 10 ≡ left % 100 % 10 = omega arith in
-    let first : left / 10 % 10 ≡ left % 100 / 10 = omega arith in
-    let place : start - 1 - 1 ≡ start - 2 = omega arith in
-    let rest : left / 10 / 10 ≡ left / 100 = omega arith in
-    let placed : Written Ten n end old
-    (slice_set (slice_set text (start - 1) (digit_code (left % 10))) (start - 2) (digit_code (left / 10 % 10))) (start - 2)
-    (left / 100) = rw (place, rest) at two in
-    rw (← last, ← first) placed
+last_of_two : (radix : Radix) (left : ℕ)
+    → left % radix_base radix ≡ left % (radix_base radix * radix_base radix) % radix_base radix
+last_of_two Ten left = omega arith
+last_of_two Sixteen left = omega arith
 
-pub two_digits_room : (n end : ℕ) (old text : List ℕ) (start left : ℕ) → Written Ten n end old text start left → 10 ≤ left → 2 ≤ start
-two_digits_room n end old text start left w some =
-    let one = written_more Ten n end old text start left w (omega (arith, some)) in
-    let before = written_some Ten n end old text start left w (omega (arith, some)) in
-    let more = written_some Ten n end old (slice_set text (start - 1) (digit_code (left % 10))) (start - 1) (left / 10) one
-    (omega (arith, some)) in
-    omega (arith, before, more)
+first_of_two : (radix : Radix) (left : ℕ)
+    → left / radix_base radix % radix_base radix ≡ left % (radix_base radix * radix_base radix) / radix_base radix
+first_of_two Ten left = omega arith
+first_of_two Sixteen left = omega arith
+
+left_of_two : (radix : Radix) (left : ℕ) → left / radix_base radix / radix_base radix ≡ left / (radix_base radix * radix_base radix)
+left_of_two Ten left = omega arith
+left_of_two Sixteen left = omega arith
+
+some_left : (radix : Radix) (left : ℕ) → radix_base radix ≤ left → (0 < left) × (0 < left / radix_base radix)
+some_left Ten left some = (omega (arith, some), omega (arith, some))
+some_left Sixteen left some = (omega (arith, some), omega (arith, some))
+
+pub two_digits_more : (radix : Radix) (n end : ℕ) (old text : List ℕ) (start left : ℕ) → Written radix n end old text start left
+    → radix_base radix ≤ left
+    → Written radix n end old (slice_set
+    (slice_set text (start - 1) (digit_code (left % (radix_base radix * radix_base radix) % radix_base radix))) (start - 2)
+    (digit_code (left % (radix_base radix * radix_base radix) / radix_base radix))) (start - 2)
+    (left / (radix_base radix * radix_base radix))
+two_digits_more radix n end old text start left w more =
+    let some = some_left radix left more in
+    let b : ℕ = radix_base radix in
+    let one = written_more radix n end old text start left w some.0 in
+    let two = written_more radix n end old (slice_set text (start - 1) (digit_code (left % b))) (start - 1) (left / b) one some.1 in
+    let place : start - 1 - 1 ≡ start - 2 = omega arith in
+    let placed : Written radix n end old
+    (slice_set (slice_set text (start - 1) (digit_code (left % b))) (start - 2) (digit_code (left / b % b))) (start - 2)
+    (left / (b * b)) = rw (place, left_of_two radix left) at two in
+    rw (← last_of_two radix left, ← first_of_two radix left) placed
+
+pub two_digits_room : (radix : Radix) (n end : ℕ) (old text : List ℕ) (start left : ℕ) → Written radix n end old text start left
+    → radix_base radix ≤ left → 2 ≤ start
+two_digits_room radix n end old text start left w more =
+    let some = some_left radix left more in
+    let b : ℕ = radix_base radix in
+    let one = written_more radix n end old text start left w some.0 in
+    let before = written_some radix n end old text start left w some.0 in
+    let first = written_some radix n end old (slice_set text (start - 1) (digit_code (left % b))) (start - 1) (left / b) one some.1 in
+    omega (arith, before, first)
 
 -- the first digit, after others
-pub first_digit : (n end : ℕ) (old text : List ℕ) (start left : ℕ) → Written Ten n end old text start left → 0 < left → left < 10
-    → Written Ten n end old (slice_set text (start - 1) (digit_code left)) (start - 1) 0
-first_digit n end old text start left w some few =
-    let one = written_more Ten n end old text start left w some in
-    let last : left % 10 ≡ left = omega (arith, few) in
-    let rest : left / 10 ≡ 0 = omega (arith, few) in
-    rw (last, rest) at one
+whole_digit : (radix : Radix) (left : ℕ) → left < radix_base radix → (left % radix_base radix ≡ left) × (left / radix_base radix ≡ 0)
+whole_digit Ten left few = (omega (arith, few), omega (arith, few))
+whole_digit Sixteen left few = (omega (arith, few), omega (arith, few))
+
+pub first_digit : (radix : Radix) (n end : ℕ) (old text : List ℕ) (start left : ℕ) → Written radix n end old text start left → 0 < left
+    → left < radix_base radix → Written radix n end old (slice_set text (start - 1) (digit_code left)) (start - 1) 0
+first_digit radix n end old text start left w some few =
+    let one = written_more radix n end old text start left w some in
+    let whole = whole_digit radix left few in
+    rw (whole.0, whole.1) at one
 
 pub written_all : (radix : Radix) (n end : ℕ) (old text : List ℕ) (start left : ℕ) → n < 2 ^ 64 → Written radix n end old text start left
     → left ≡ 0

@@ -2,10 +2,10 @@
 //!
 //! The digits are those that `Display` writes. They are written from the last one on, into the text that they belong to, so that none is
 //! counted before, or moved or copied after.
-ghost use Rattle.std.specs.Prelude.{◌≡◌, ◌+◌, ◌<◌, ◌≤◌, drop, length, take, OnOk, OnErr};
-ghost use Rattle.lnt_text.specs.Digits.{IsPlainAddress, IsPlainDecimal, Puts};
+ghost use Rattle.std.specs.Prelude.{◌≡◌, ℕ, ◌+◌, ◌<◌, ◌≤◌, drop, length, take, OnOk, OnErr};
+ghost use Rattle.lnt_text.specs.Digits.{IsPlain, IsPlainAddress, IsPlainDecimal, Puts, most_digits};
 
-use crate::radix::{decimal_byte, digit_byte};
+use crate::radix::Radix;
 use std::alloc::AllocError;
 
 // The most decimal digits that a number below 2^64 has.
@@ -49,22 +49,7 @@ pub fn decimal_before(text: &mut [u8], end: usize, n: u64) -> usize
     ensures before { take result text.new ≡ take result text.old }
     ensures after { drop end text.new ≡ drop end text.old }
 {
-    let mut start = end - 1;
-    text[start] = decimal_byte(n % 10);
-    let mut left = n / 10;
-    // Each division after the first gives two digits, since it has to wait for the one before it.
-    while left >= 10 {
-        let pair = left % 100;
-        text[start - 1] = decimal_byte(pair % 10);
-        text[start - 2] = decimal_byte(pair / 10);
-        start -= 2;
-        left /= 100;
-    }
-    if left == 0 {
-        return start;
-    }
-    text[start - 1] = decimal_byte(left);
-    start - 1
+    digits_before(text, end, n, Radix::Ten)
 }
 
 /// Writes `0x` and the hexadecimal digits of a number, in lower case and with no leading zeros, into a text, so that they
@@ -78,15 +63,38 @@ pub fn address_before(text: &mut [u8], end: usize, n: u64) -> usize
     ensures before { take result text.new ≡ take result text.old }
     ensures after { drop end text.new ≡ drop end text.old }
 {
-    let mut start = end - 1;
-    text[start] = digit_byte(n % 16);
-    let mut left = n / 16;
-    while left > 0 {
-        start -= 1;
-        text[start] = digit_byte(left % 16);
-        left /= 16;
-    }
+    let start = digits_before(text, end, n, Radix::Sixteen);
     text[start - 1] = b'x';
     text[start - 2] = b'0';
     start - 2
+}
+
+// Writes the digits of a number in this base, with no leading zeros, into a text, so that they end before index `end`, and returns the
+// index of the first.
+#[inline(always)]
+fn digits_before(text: &mut [u8], end: usize, n: u64, radix: Radix) -> usize
+    requires { (most_digits radix ≤ end) × (end ≤ length text.old) }
+    ensures begins { (result < end) × (end ≤ result + most_digits radix) }
+    ensures written { IsPlain radix (drop result (take end text.new)) n }
+    ensures long { end ≤ length text.new }
+    ensures before { (place : ℕ) → place ≤ result → take place text.new ≡ take place text.old }
+    ensures after { drop end text.new ≡ drop end text.old }
+{
+    let base = radix.base();
+    let mut start = end - 1;
+    text[start] = radix.digit(n % base);
+    let mut left = n / base;
+    // Each division after the first gives two digits, since it has to wait for the one before it.
+    while left >= base {
+        let (first, second) = radix.pair(left % (base * base));
+        text[start - 1] = second;
+        text[start - 2] = first;
+        start -= 2;
+        left /= base * base;
+    }
+    if left == 0 {
+        return start;
+    }
+    text[start - 1] = radix.digit(left);
+    start - 1
 }

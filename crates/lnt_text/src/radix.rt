@@ -1,5 +1,5 @@
 //! Digits and their values.
-ghost use Rattle.std.specs.Prelude.{◌≡◌, ◌+◌, ◌<◌, ◌≤◌, MatchOption, MatchBool};
+ghost use Rattle.std.specs.Prelude.{◌≡◌, ◌+◌, ◌*◌, ◌/◌, ◌%◌, ◌<◌, ◌≤◌, MatchOption, MatchBool};
 ghost use Rattle.lnt_text.specs.Digits.{IsDecimalDigit, IsDigit, IsHexadecimalDigit, radix_base, digit_code, digit_value, most_digits};
 
 // The base in which a number is written.
@@ -32,6 +32,31 @@ impl Radix {
         match self {
             Radix::Ten => 20,
             Radix::Sixteen => 16,
+        }
+    }
+
+    // The digit of this value, a letter in lower case.
+    #[inline(always)]
+    pub(crate) fn digit(self, value: u64) -> u8
+        requires { value < radix_base self }
+        ensures { result ≡ digit_code value }
+    {
+        match self {
+            Radix::Ten => b'0' + value as u8,
+            Radix::Sixteen => b"0123456789abcdef"[value as usize],
+        }
+    }
+
+    // The two digits of this value, letters in lower case.
+    #[inline(always)]
+    pub(crate) fn pair(self, value: u64) -> (u8, u8)
+        requires { value < radix_base self * radix_base self }
+        ensures first { result.0 ≡ digit_code (value / radix_base self) }
+        ensures second { result.1 ≡ digit_code (value % radix_base self) }
+    {
+        match self {
+            Radix::Ten => decimal_pair(value),
+            Radix::Sixteen => hexadecimal_pair(value),
         }
     }
 
@@ -92,20 +117,28 @@ fn is_between(byte: u8, first: u8, last: u8) -> bool
     (first <= byte) & (byte <= last)
 }
 
-// The hexadecimal digit of this value, with letters in lower case.
+// The two decimal digits of a value.
 #[inline(always)]
-pub(crate) fn digit_byte(digit: u64) -> u8
-    requires { digit < 16 }
-    ensures { result ≡ digit_code digit }
+fn decimal_pair(value: u64) -> (u8, u8)
+    requires { value < 100 }
+    ensures first { result.0 ≡ digit_code (value / 10) }
+    ensures second { result.1 ≡ digit_code (value % 10) }
 {
-    b"0123456789abcdef"[digit as usize]
+    let pairs =
+        b"00010203040506070809101112131415161718192021222324252627282930313233343536373839404142434445464748495051525354555657585960616263646566676869707172737475767778798081828384858687888990919293949596979899";
+    let place = 2 * value as usize;
+    (pairs[place], pairs[place + 1])
 }
 
-// The decimal digit of this value.
+// The two hexadecimal digits of a value, with letters in lower case.
 #[inline(always)]
-pub(crate) fn decimal_byte(digit: u64) -> u8
-    requires { digit < 10 }
-    ensures { result ≡ digit_code digit }
+fn hexadecimal_pair(value: u64) -> (u8, u8)
+    requires { value < 256 }
+    ensures first { result.0 ≡ digit_code (value / 16) }
+    ensures second { result.1 ≡ digit_code (value % 16) }
 {
-    b'0' + digit as u8
+    let pairs =
+        b"000102030405060708090a0b0c0d0e0f101112131415161718191a1b1c1d1e1f202122232425262728292a2b2c2d2e2f303132333435363738393a3b3c3d3e3f404142434445464748494a4b4c4d4e4f505152535455565758595a5b5c5d5e5f606162636465666768696a6b6c6d6e6f707172737475767778797a7b7c7d7e7f808182838485868788898a8b8c8d8e8f909192939495969798999a9b9c9d9e9fa0a1a2a3a4a5a6a7a8a9aaabacadaeafb0b1b2b3b4b5b6b7b8b9babbbcbdbebfc0c1c2c3c4c5c6c7c8c9cacbcccdcecfd0d1d2d3d4d5d6d7d8d9dadbdcdddedfe0e1e2e3e4e5e6e7e8e9eaebecedeeeff0f1f2f3f4f5f6f7f8f9fafbfcfdfeff";
+    let place = 2 * value as usize;
+    (pairs[place], pairs[place + 1])
 }
