@@ -33,13 +33,39 @@ expect 'a prefix' 0 "$(installed "$prefix")"$'\n' '' ./install "$prefix"
 
 # The modules of the scripts are compiled where they are installed, and not where they are staged.
 modules_in() { # FOLDER NAME
-  (cd "$1/scripts" && find . -name "$2" ! -path './__init__.*' | sed -E 's,__pycache__/,,; s,[.](cpython.*)?pyc?$,,' | LC_ALL=C sort)
+  (cd "$1/scripts" && find . -name "$2" | sed -E 's,__pycache__/,,; s,[.](cpython.*)?pyc?$,,' | LC_ALL=C sort)
 }
 compiled() {
   expect 'with compiled modules' 0 "$(installed "$work/compiled")"$'\n' '' env PYTHONDONTWRITEBYTECODE= ./install "$work/compiled"
   same 'each module' "$(modules_in share '*.py')" "$(modules_in "$work/compiled/share/linetab" '*.pyc')"
   expect 'which are removed too' 0 '' '' bash -c './install --uninstall "$0" >/dev/null && find "$0" -type f' "$work/compiled"
   expect 'none below DESTDIR' 0 '' '' bash -c 'PYTHONDONTWRITEBYTECODE= DESTDIR=$0 ./install staged >/dev/null && find "$0" -name "*.pyc"' "$work/compiled"
+}
+
+# linetab-object asks the program for its help of a word only where the program is newer than what is kept of it.
+kept() {
+  local word
+  for word in $(words | grep -vx help); do
+    expect "the help of $word, kept" 0 '' '' cmp <("$linetab" "$word" --help) "$prefix/share/linetab/words/$word"
+  done
+  cp -r "$prefix" "$work/kept"
+  printf '#!/bin/sh\necho "$*" >>"%s"\nexec "%s" "$@"\n' "$work/calls" "$linetab" >"$work/kept/bin/linetab"
+  touch -d 2000-01-01 "$work/kept/bin/linetab"
+  object() { # WORD..
+    : >"$work/calls"
+    "$work/kept/bin/linetab-object" "$@"
+  }
+  expect 'by a word that is kept' 0 $'yes\n' '' object verify "$work/app"
+  expect 'the program runs once' 0 $'1\n' '' grep -c '' "$work/calls"
+  expect 'an option that it has not' 2 '' $'error: unexpected argument \'--none\' found\n\n  tip: to pass \'--none\' as a value, use \'-- --none\'\n\nUsage: linetab-object verify [OPTIONS] <FILE>\n\nFor more information, try \'--help\'.\n' \
+    object verify --none "$work/app"
+  expect 'a word that it has not' 2 '' $'error: unrecognized subcommand \'none\'\n\nUsage: linetab-object <COMMAND>\n\nFor more information, try \'--help\'.\n' \
+    object none "$work/app"
+  expect 'a path in place of a word' 2 '' $'error: unrecognized subcommand \'../words/verify\'\n\nUsage: linetab-object <COMMAND>\n\nFor more information, try \'--help\'.\n' \
+    object ../words/verify "$work/app"
+  touch "$work/kept/bin/linetab"
+  expect 'a word of a newer program' 0 $'yes\n' '' object verify "$work/app"
+  expect 'which is asked for its help' 0 $'verify --help\n' '' grep help "$work/calls"
 }
 
 # A package is made below DESTDIR, and what is told can be typed.
@@ -365,6 +391,7 @@ helps() {
 }
 
 compiled
+kept
 staged
 in_the_way
 documents

@@ -1,7 +1,5 @@
 """What a file is, by its first bytes: a program, a symbol file, an address table, or a text of which a table can be made."""
 
-import re
-
 from scripts.object.image import READERS
 
 HEAD = 1 << 12  # bytes that tell it
@@ -20,7 +18,7 @@ NAMES = {
 }
 MAGICS = ((b"MODULE ", BREAKPAD), (b"MYSG", GSYM), (b"GSYM", GSYM))
 PRINTS = ((b".debug_line contents:", LLVM), (b"debug_line[0x", LLVM), (b"Contents of the .debug_line section:", READELF))
-A_LINE = re.compile(r"[ \t]*(?:0[xX])?[0-9a-fA-F]{1,16}[ \t].*[^ \t]:[0-9]{1,19}[ \t]*")
+A_LINE = r"[ \t]*(?:0[xX])?[0-9a-fA-F]{1,16}[ \t].*[^ \t]:[0-9]{1,19}[ \t]*"
 MARK = b"\xef\xbb\xbf"  # of UTF-8
 SEPARATORS = ",;\t|"
 
@@ -37,13 +35,17 @@ def kind_of(head):
     if {"low", "high"} <= names and names & {"path", "file"}:
         return TABLE
     kind = next((kind for text, kind in PRINTS if text in head), None)
-    return kind or (LINES if A_LINE.fullmatch(first) else None)
+    if kind:
+        return kind
+    import re
+
+    return LINES if re.fullmatch(A_LINE, first) else None
 
 
 def first_line(head):
     """The first line of a text that isn't empty, one character for each byte, without its end."""
-    text = head[:HEAD].removeprefix(MARK).lstrip(b"\r\n")
-    return re.split(rb"[\r\n]", text, maxsplit=1)[0].decode("latin-1")
+    lines = head[:HEAD].removeprefix(MARK).lstrip(b"\r\n").splitlines()
+    return lines[0].decode("latin-1") if lines else ""
 
 
 def separator_of(line):

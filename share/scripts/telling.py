@@ -1,7 +1,6 @@
 """What is written to standard error."""
 
 import os
-import sys
 
 
 # The program that tells, and whether it gives no notes.
@@ -84,7 +83,8 @@ def ended_by(status):
 
 
 def end(status):
-    """Ends as the program did: with its status, or by the signal that ended it."""
+    """Ends as the program did: with its status, or by the signal that ended it. Nothing is left to be written then, so Python's own end,
+    a tenth of the time of a short run, is left out."""
     if status < 0:
         import signal
 
@@ -93,4 +93,4 @@ def end(status):
         except (OSError, ValueError):  # no process may set this one
             pass
         os.kill(os.getpid(), -status)
-    sys.exit(status)
+    os._exit(status)

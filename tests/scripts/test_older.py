@@ -4,7 +4,8 @@ import struct
 import unittest
 
 from scripts.bounded import Part
-from scripts.object.older import counted, joined, paths, versions
+from scripts.object.older import counted, joined, versions
+from scripts.object.older_paths import paths
 
 
 def unit(version, order="<", wide=False, folders=(b"src",), files=((b"a.c", 1), (b"b.c", 0))):

@@ -1,4 +1,8 @@
+import os
+import sys
+import tempfile
 import unittest
+from unittest import mock
 
 from scripts.object import words
 from scripts.object.words import GAPS, REPORT, Check, Differing, Given, Symbolize, Usage, Word
@@ -59,6 +63,24 @@ class Helps(unittest.TestCase):
         self.assertEqual(words.renamed("Usage: linetab check <SECTION> <TABLE> 'linetab'"),
                          "Usage: linetab-object check <FILE> <SYMBOLS> 'linetab-object'")
         self.assertEqual(words.without_size("upgrade --address-size <2|4|8> <SECTION>"), "upgrade <SECTION>")
+
+
+class Kept(unittest.TestCase):
+    def test_the_program_is_asked_unless_its_help_is_kept(self):
+        asked = mock.Mock(return_value=(0, "asked", ""))
+        with tempfile.TemporaryDirectory() as folder, mock.patch.object(sys, "path", [folder]), mock.patch.object(words, "asked", asked):
+            program, kept = os.path.join(folder, "linetab"), os.path.join(folder, "words", "verify")
+            os.mkdir(os.path.dirname(kept))
+            for path in (program, kept):
+                with open(path, "w") as file:
+                    file.write("kept")
+            with mock.patch.object(words, "LINETAB", program):
+                for time, name, found in ((9, "verify", "kept"), (10, "verify", "kept"), (11, "verify", "asked"), (9, "table", "asked"),
+                                          (9, "../words/verify", "asked"), (9, ".", "asked")):
+                    os.utime(program, (time, time))
+                    os.utime(kept, (10, 10))
+                    self.assertEqual(words.help_of(name), (0, found, ""))
+        asked.assert_called_with([".", "--help"])
 
 
 class Typed(unittest.TestCase):

@@ -6,7 +6,8 @@ import os
 from scripts.bounded import MOST, found_in
 from scripts.object.image import STRINGS
 from scripts.object.notes import COPIES, DEAD, is_version, twice_held
-from scripts.object.older import OLDER, counted, joined, paths, versions
+from scripts.object.older import OLDER, counted, joined, versions
+from scripts.object.older_paths import paths
 from scripts.telling import shown
 
 # How notes of the program begin that are told here in other words.

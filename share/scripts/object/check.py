@@ -1,7 +1,6 @@
 """The word check: a program is compared with an address table, or with a symbol file."""
 
 import os
-import re
 
 from scripts.bounded import Failure, Nothing, Refusal
 from scripts.kinds import BREAKPAD, GSYM
@@ -9,10 +8,18 @@ from scripts.object.identity import identifier_of
 from scripts.object.symbol_files import READ_TWICE
 from scripts.telling import shown
 
-COUNTS = re.compile(rb"(?:yes\nanswers|no 46 answers) ([0-9]+) of ([0-9]+)\n")
+COUNTED = ([b"yes"], [b"no", b"46"])  # the words before counts
 LONGEST = 4096  # bytes of an answer with counts
-SECTION_NO = re.compile("no (?:2[5-9]|3[0-2]) ")
+SECTION_NO = tuple("no %d " % number for number in range(25, 33))
 EMPTY = b"low,high,path,line\n"
+
+
+def counts_in(answer):
+    """How many addresses are answered, and of how many, by an answer that has both; else None."""
+    words = answer.split()
+    if not answer.endswith(b"\n") or words[:-4] not in COUNTED or (words[-4], words[-2]) != (b"answers", b"of"):
+        return None
+    return int(words[-3]), int(words[-1])
 
 
 class Comparison:
@@ -75,13 +82,13 @@ class Comparison:
 
     def put_symbols(self):
         """Makes the table of a symbol file, by the program linetab. If that refuses the file, the table has no record."""
-        from scripts.object.tables import spans_in
-
         run = self.other.symbols(self.base)
         self.refused = run.no()
         if self.refused:
             self.other.put([EMPTY])
         elif self.given.maps:
+            from scripts.object.tables import spans_in
+
             self.other.put_table(self.given.mapped(spans_in(run.pieces())))
         else:
             self.other.put(run.pieces())
@@ -89,7 +96,7 @@ class Comparison:
 
     def refusal(self, run):
         """The line that refuses the symbol file, unless the section itself is refused, or nothing."""
-        return "" if SECTION_NO.match(run.no()) else self.refused
+        return "" if run.no().startswith(SECTION_NO) else self.refused
 
     def older_readers(self):
         """A note if readers of GSYM files up to LLVM 17 answer otherwise, as far as that can be told."""
@@ -175,11 +182,11 @@ class Comparison:
         return self.listing.pieces(run)
 
     def read_counts(self, answer):
-        counts = COUNTS.fullmatch(answer)
-        if not counts:
+        counts = counts_in(answer)
+        if counts is None:
             return
-        self.counts = int(counts[1]), int(counts[2])
-        if self.counts[1] == 0:
+        self.counts = counts
+        if counts[1] == 0:
             raise Nothing("no address of it has a line, so there is nothing to compare")
 
     # ---- behind it

@@ -11,7 +11,8 @@ from itertools import filterfalse, islice
 
 from scripts.bounded import MOST, Part, Refusal, stored
 from scripts.object.cursor import Broken, Cursor
-from scripts.object.older import OLDER, counted, paths, versions
+from scripts.object.older import OLDER, counted, versions
+from scripts.object.older_paths import paths
 from scripts.object.program import unnamed
 from scripts.paths import is_full
 from scripts.telling import shown

@@ -1,7 +1,6 @@
 """Answers of which several are made at a time, each in a process of its own, and which are written in their order."""
 
 import os
-import signal
 from collections import deque
 
 from scripts.bounded import PIECE, Failure
@@ -9,6 +8,7 @@ from scripts.object.output import Unwritten
 from scripts.object.program import unnamed
 from scripts.telling import put_error
 
+END = 15  # SIGTERM
 AHEAD = 8  # answers that may wait for the one before them, for each process
 NOTHING, UNWRITTEN, ENDED = 100, 101, 102  # statuses of processes that aren't those of answers
 
@@ -130,6 +130,6 @@ class Jobs:
 
     def stop(self):
         for process in self.running:
-            os.kill(process, signal.SIGTERM)
+            os.kill(process, END)
             os.waitpid(process, 0)
         self.running.clear()

@@ -2,14 +2,10 @@
 
 import os
 import struct
-from array import array
-from collections import Counter
 
 from scripts.bounded import Refusal
-from scripts.object.cursor import Broken, Cursor
 from scripts.object.image import LINE
 from scripts.object.program import unnamed
-from scripts.paths import within
 
 OLDER = (2, 3, 4)
 TAKEN = {"--big", "--address-size", "--directories"}
@@ -27,43 +23,6 @@ def versions(section, big):
             start = at + 12
         yield version, at
         at = start + length
-
-
-def paths(section, at, order):
-    """The path of each file of the unit of version 2, 3 or 4 at an offset, as its header has it, up to where that is cut."""
-    try:
-        yield from paths_in(header_of(section, at, order))
-    except Broken:
-        pass
-
-
-def header_of(section, at, order):
-    """A place before the directories of a unit, which ends where its header does."""
-    cursor = Cursor(section, at, section.size, order)
-    length, width = cursor.number(4), 4
-    if length == 0xFFFFFFFF:
-        length, width = cursor.number(8), 8
-    cursor.end_after(length)
-    version = cursor.number(2)
-    cursor.end_after(cursor.number(width))
-    cursor.skip(5 if version >= 4 else 4)
-    cursor.skip(max(cursor.number(1), 1) - 1)  # the lengths of standard opcodes
-    return cursor
-
-
-def paths_in(cursor):
-    folders = array("Q")
-    while True:
-        folders.append(cursor.at)
-        if not cursor.text():
-            break
-    while name := cursor.text():
-        number, _, _ = cursor.leb(), cursor.leb(), cursor.leb()
-        folder = b""
-        if 0 < number < len(folders):
-            start = folders[number - 1]
-            folder = cursor.whole[start : folders[number] - 1]
-        yield within(folder, name)
 
 
 def counted(count, total):
@@ -110,7 +69,9 @@ def upgraded(question):
     """Puts the upgraded section in the place of one with older units. Gives the run of the program that ended otherwise, if it did, and
     what is to be told."""
     question.versions += OLDER
-    counts = Counter(version for version, _ in versions(question.section(), question.image.big))
+    counts = {}
+    for version, _ in versions(question.section(), question.image.big):
+        counts[version] = counts.get(version, 0) + 1
     found = [version for version in OLDER if version in counts]
     if not found:
         return None, []

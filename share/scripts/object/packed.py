@@ -1,15 +1,9 @@
 """Compressed sections."""
 
-import glob
-import os
-import shutil
 import struct
-import subprocess
-import tempfile
 import zlib
 
-from scripts.bounded import PIECE, Failure, Refusal, opened
-from scripts.object.program import unnamed
+from scripts.bounded import PIECE, Refusal
 
 RATIO = 100  # bytes that a compressed one may stand for, beyond one piece
 TORN = "section %s isn't what its compression header says: the file is damaged"
@@ -65,43 +59,7 @@ def from_elf(order, wide, path, name, part):
     if kind == 1:
         return inflated(name, packed, size)
     if kind == 2:
+        from scripts.object.zstd import from_zstd
+
         return exactly(name, packed, size, from_zstd(name, packed, path))
     raise Refusal("section %s is compressed in an unknown way, number %d" % (name, kind))
-
-
-def from_zstd(name, packed, path):
-    """Unpacks zstd's format by what is here: Python from 3.14 on, the program zstd, or an objcopy that knows it."""
-    try:
-        from compression import zstd
-    except ImportError:
-        return by_zstd(name, packed) if shutil.which("zstd") else by_objcopy(name, path)
-    return unpacked(name, packed, zstd.ZstdDecompressor(), zstd.ZstdError)
-
-
-def by_zstd(name, packed):
-    file = unnamed(packed.pieces())
-    try:
-        os.lseek(file, 0, os.SEEK_SET)
-        # Where no more is read, its output is closed, and it ends.
-        with subprocess.Popen(["zstd", "-dcq"], stdin=file, stdout=subprocess.PIPE, stderr=subprocess.DEVNULL) as process:
-            yield from iter(lambda: process.stdout.read(PIECE), b"")
-    finally:
-        os.close(file)
-    if process.returncode == 1:  # the status of bytes that it can't read
-        raise Refusal(TORN % name)
-    if process.returncode != 0:
-        raise Failure("section %s can't be unpacked: zstd ended with %d" % (name, process.returncode))
-
-
-def by_objcopy(name, path):
-    folders = os.environ.get("PATH", os.defpath).split(os.pathsep)
-    others = [tool for folder in folders for tool in sorted(glob.glob(os.path.join(glob.escape(folder), "*objcopy*")))]
-    with tempfile.TemporaryDirectory() as folder:
-        section, copy = os.path.join(folder, "section"), os.path.join(folder, "copy")
-        for tool in filter(shutil.which, ["objcopy", "llvm-objcopy", *others]):
-            words = [tool, "--decompress-debug-sections", "--dump-section", "%s=%s" % (name, section), os.path.abspath(path), copy]
-            done = subprocess.run(words, stdin=subprocess.DEVNULL, stdout=subprocess.DEVNULL, stderr=subprocess.DEVNULL, check=False)
-            if done.returncode == 0 and os.path.exists(section):
-                yield from opened(section).pieces()
-                return
-    raise Failure("section %s is compressed by zstd, which nothing here unpacks: install the package zstd" % name)

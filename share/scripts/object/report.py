@@ -3,7 +3,6 @@
 import json
 import os
 import re
-import tempfile
 from collections import Counter
 
 from scripts.bounded import PIECE, Refusal
@@ -22,6 +21,8 @@ class Lines:
     """Lines as an array of JSON, which is kept in a file if it is long."""
 
     def __init__(self):
+        import tempfile
+
         self.file, self.is_empty = tempfile.SpooledTemporaryFile(PIECE), True
 
     def add(self, line):

@@ -3,7 +3,7 @@
 from scripts.bounded import Failure
 from scripts.object import diagnosis, rows
 from scripts.object.causes import Causes
-from scripts.object.check import COUNTS
+from scripts.object.check import counts_in
 from scripts.object.diagnosis import beginnings, path_text
 from scripts.object.functions import readable, sized
 from scripts.object.program import unnamed
@@ -44,10 +44,10 @@ def total(question, words):
     run = question.run("check", ["--partial", *words], [empty])
     answer = b"".join(run.pieces())
     run.judged()
-    counts = COUNTS.fullmatch(answer)
-    if not counts:
+    counts = counts_in(answer)
+    if counts is None:
         raise Failure("the addresses with a line can't be counted")
-    return int(counts[2])
+    return counts[1]
 
 
 # ---- texts

@@ -2,8 +2,6 @@
 
 import os
 import stat
-import zlib
-from contextlib import contextmanager
 
 from scripts.bounded import ABSENT, PIECE, Failure, Refusal, standard_input, stored
 from scripts.kinds import BREAKPAD, MAGICS
@@ -33,6 +31,8 @@ def identifier_in(head, kind):
 
 def inflated(packed):
     """What gzip packed, in pieces."""
+    import zlib
+
     left = PIECE + RATIO * packed.size
     rest = packed
     try:
@@ -57,6 +57,20 @@ def inflated(packed):
         raise Refusal("it is cut or damaged, as gzip packed it") from None
 
 
+class Naming:
+    """Gives a refusal the name of a file."""
+
+    def __init__(self, name):
+        self.name = name
+
+    def __enter__(self):
+        return self
+
+    def __exit__(self, _kind, fault, _trace):
+        if isinstance(fault, Refusal):
+            raise Refusal(str(fault), self.name) from None
+
+
 class Other:
     """The file behind the program: what it is, its bytes, and the name by which the program linetab opens it."""
 
@@ -64,14 +78,14 @@ class Other:
         self.name, self.opened_as = name, name
         self.kept = []  # files without a name
         try:
-            with self.named():
+            with Naming(self.name):
                 self.data = self.whole()
         except OSError as error:
             if error.errno not in ABSENT:
                 raise Failure("cannot read it: %s" % error.strerror, name) from None
             self.data = None  # what the program linetab says of it is as good
         if self.data is not None and self.data.has(GZIP):
-            with self.named():
+            with Naming(self.name):
                 self.data = self.keep(inflated(self.data))
             self.opened_as = "/proc/self/fd/%d" % self.kept[-1]
         self.kind = None if self.data is None else kind_of(self.data)
@@ -130,14 +144,6 @@ class Other:
         """The identifier of the build that it is of, or None if it has none."""
         return identifier_in(self.data.take(0, min(self.data.size, 1 << 12)), self.kind)
 
-    @contextmanager
-    def named(self):
-        """Gives a refusal the name of this file."""
-        try:
-            yield
-        except Refusal as refusal:
-            raise Refusal(str(refusal), self.name) from None
-
     def older_spans(self):
         """The spans of a GSYM file as readers up to LLVM 17 answer, as they come."""
         from scripts.table.gsym import spans_of
@@ -146,7 +152,7 @@ class Other:
 
     def symbols(self, base):
         """A run of the program linetab that prints the table of a symbol file. The addresses in one of Breakpad count from `base`."""
-        with self.named():
+        with Naming(self.name):
             if self.kind == BREAKPAD and self.data.take(self.data.size - 1, 1) not in (b"\n", b"\r"):
                 raise Refusal("its last line, %d, has no end: it is cut" % sum(1 for _ in self.data.lines()))
         self.rewind()
@@ -156,7 +162,7 @@ class Other:
         """Writes a table of spans, which the program linetab opens in place of the symbol file."""
         from scripts.table.spans import joined, table_of
 
-        with self.named():
+        with Naming(self.name):
             self.put(table_of(joined(spans), False))
 
     def put(self, pieces):

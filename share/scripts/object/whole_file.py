@@ -3,7 +3,6 @@
 import contextlib
 import errno
 import os
-import re
 import signal
 import stat
 
@@ -14,7 +13,6 @@ from scripts.object.program import without_name
 from scripts.telling import end, put_whole, shown
 
 ENDING = signal.SIGTERM, signal.SIGHUP, signal.SIGINT
-SAME = re.compile(rb'^unit [0-9]+ file [0-9]+ same "(.*)"$', re.M)  # a line of `md5`
 
 
 class Whole(Standard):
@@ -128,7 +126,10 @@ def removed_where_ended(path):
 
 def listed_in(answer):
     """The paths of the files that `md5` read, by its answer."""
-    return [re.sub(rb"\\x([0-9a-f]{2})", lambda it: bytes([int(it[1], 16)]), path) for path in SAME.findall(answer)]
+    import re
+
+    same = re.findall(rb'^unit [0-9]+ file [0-9]+ same "(.*)"$', answer, re.M)
+    return [re.sub(rb"\\x([0-9a-f]{2})", lambda it: bytes([int(it[1], 16)]), path) for path in same]
 
 
 def place_named(name):

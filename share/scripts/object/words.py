@@ -1,9 +1,10 @@
 """The words that are typed, by what the help of the program says of each word, and the texts that say how they are used."""
 
 import os
+import sys
 
 from scripts.bounded import standard_input
-from scripts.object.program import asked
+from scripts.object.program import LINETAB, asked
 from scripts.telling import put_error, shown
 
 FILE = "A program, its debug information apart, a .dSYM folder, or - for standard input"
@@ -356,12 +357,25 @@ def misused(word, given, needed=()):
 ENGINES = {SYMBOLIZE[0]: "lookup", GAPS[0]: "check", REPORT[0]: "check"}
 
 
+def help_of(name):
+    """What the program answers if it is asked for its help of a word: the exit status, the help, and what is said on standard error. An
+    installed tree has the help in a file, which holds unless the program is newer."""
+    if name.isalnum():
+        try:
+            with open(os.path.join(sys.path[0], "words", name), "rb", buffering=0) as file:
+                if os.fstat(file.fileno()).st_mtime >= os.stat(LINETAB).st_mtime:
+                    return 0, os.fsdecode(file.read()), ""
+        except OSError:  # there is none
+            pass
+    return asked([name, "--help"])
+
+
 def known(name):
     """The exit status of the program's help of a word, and the word of this name, where there is one."""
     if name == APART:
         put_usage("error: linetab %s FILE reads a symbol file, and no program\n%s" % (APART, MORE))
         return 2, None
-    status, text, said = asked([ENGINES.get(name, name), "--help"])
+    status, text, said = help_of(ENGINES.get(name, name))
     put_usage(renamed(said))
     if status != 0:
         return status, None

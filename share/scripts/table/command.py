@@ -2,6 +2,7 @@
 
 import argparse
 import errno
+import functools
 import os
 import re
 import signal
@@ -12,7 +13,7 @@ from scripts.bounded import PIECE, Refusal, reason_of
 from scripts.object.program import unnamed
 from scripts.table.source import source
 from scripts.table.spans import joined, table_of
-from scripts.telling import escaped, hold_standard_descriptors, put_whole, shown, tell
+from scripts.telling import end, escaped, hold_standard_descriptors, put_whole, shown, tell
 
 # ---- makers, each of which is read if it is asked for
 
@@ -95,7 +96,9 @@ def a_dialect(text):
 
 def asked_for(typed):
     """What the words ask for."""
-    words = Words(prog="linetab-table", add_help=False, allow_abbrev=False)
+    # No usage is shown. With these two none is made, for which more modules would be read.
+    plain = {"usage": "", "formatter_class": functools.partial(argparse.HelpFormatter, width=80)}
+    words = Words(prog="linetab-table", add_help=False, allow_abbrev=False, **plain)
     words.add_argument("words", nargs="*")
     words.add_argument("--paths-of")
     words.add_argument("--dead", type=an_address)
@@ -220,4 +223,4 @@ def main(about):
     except Exception as fault:
         reason, status = reason_of(fault)
         tell(reason)
-    sys.exit(status)
+    end(status)
