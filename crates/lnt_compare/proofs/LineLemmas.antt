@@ -27,18 +27,18 @@ use Rattle.lnt_compare.proofs.KindLaws.{path_laws}
 
 -- ---- by number
 
-pub line_passed : (r : Bool) (version : Version) (span : Span) (text line old new : List ℕ) → MatchBool r (old ≡ text ++ new) (new ≡ old)
-    → text ≡ line → IsTextLine version span line [] → IsOfVersion version span.answer
+pub line_passed : (r : Bool) (version : Version) (span : Span) (line old new : List ℕ) → MatchBool r (old ≡ line ++ new) (new ≡ old)
+    → IsTextLine version span line [] → IsOfVersion version span.answer
     → MatchBool r (IsTextLine version span old new × IsOfVersion version span.answer) (new ≡ old)
-line_passed true version span text line old new e same l is = (
+line_passed true version span line old new e l is = (
   record {
     fields = l.fields;
-    joined = e ∙ ap (λ (t : List ℕ). t ++ new) (same ∙ l.joined ∙ append-nil (line_text l.fields));
+    joined = e ∙ ap (λ (t : List ℕ). t ++ new) (l.joined ∙ append-nil (line_text l.fields));
     says = l.says;
   },
   is,
 )
-line_passed false version span text line old new e same l is = e
+line_passed false version span line old new e l is = e
 
 pub number_line : (r : Bool) (version : Version) (span narrow : Span) (old new : List ℕ) → narrow ≡ span_in_version version span
     → MatchBool r (IsTextLine version narrow old new × IsOfVersion version narrow.answer) (new ≡ old)

@@ -6,7 +6,7 @@ ghost use Rattle.lnt_records.specs.Written.{IsOfVersion};
 use crate::line_telling::LineTelling;
 use crate::window::Window;
 use lnt_io::{Source, Stop};
-use lnt_records::{ROOM, TableVersion, put_span, put_span_line};
+use lnt_records::{LineRoom, ROOM, TableVersion, put_span};
 use lnt_spans::{Answer, Difference, Found, Merge, Span, SpanSource, Telling, Version};
 use std::alloc::{AllocError, Global};
 
@@ -69,7 +69,7 @@ impl LineTelling for Version {
         &self,
         _alloc: Global,
         _memory: &mut (),
-        room: &mut [u8; ROOM],
+        room: &mut LineRoom,
         span: &Span,
         block: &mut Vec<u8>,
     ) -> Result<(), AllocError> {
@@ -81,7 +81,7 @@ impl LineTelling for Version {
         &self,
         alloc: Global,
         _memory: &mut (),
-        room: &mut [u8; ROOM],
+        room: &mut LineRoom,
         span: &Span,
         source: &mut T,
         window: &mut Window,
@@ -93,15 +93,14 @@ impl LineTelling for Version {
 
 // Moves past the line of this span, if it is next.
 #[inline(always)]
-fn pass_line(window: &mut Window, room: &mut [u8; ROOM], span: &Span, version: Version) -> bool
+fn pass_line(window: &mut Window, room: &mut LineRoom, span: &Span, version: Version) -> bool
     ensures { MatchBool result (IsTextLine version span.now window.old window.new × IsOfVersion version span.now.answer)
         (window.new ≡ window.old) }
 {
     if !tells(&span.answer, version) {
         return false;
     }
-    let start = put_span_line(room, span);
-    window.pass_text(&room[start..])
+    window.pass_text(room.line(span))
 }
 
 // Whether an answer has exactly the fields of the version.

@@ -1,7 +1,7 @@
 //! The lines of spans in tables, by number and by path.
 use crate::window::Window;
 use lnt_io::{Source, Stop};
-use lnt_records::ROOM;
+use lnt_records::LineRoom;
 use lnt_spans::{Answer, Found, Merge, Span, SpanSource, Telling};
 use std::alloc::{AllocError, Global};
 
@@ -66,7 +66,7 @@ pub(crate) trait LineTelling: Telling {
         &self,
         alloc: Global,
         memory: &mut Self::Memory,
-        room: &mut [u8; ROOM],
+        room: &mut LineRoom,
         span: &Span,
         block: &mut Vec<u8>,
     ) -> Result<(), AllocError>
@@ -80,7 +80,7 @@ pub(crate) trait LineTelling: Telling {
         &self,
         alloc: Global,
         memory: &mut Self::Memory,
-        room: &mut [u8; ROOM],
+        room: &mut LineRoom,
         span: &Span,
         source: &mut T,
         window: &mut Window,

@@ -15,7 +15,7 @@ use crate::line_telling::LineTelling;
 use crate::remaining::Remaining;
 use crate::window::Window;
 use lnt_io::{Source, Stop};
-use lnt_records::{ROOM, next_number};
+use lnt_records::{LineRoom, next_number};
 use lnt_spans::{Position, SpanSource, add_between};
 use std::alloc::Global;
 
@@ -53,7 +53,7 @@ pub(crate) fn pass_spans<S: SpanSource + Drop, L: LineTelling, T: Source, C>(
     ensures not_long { IsErrOf result Stop.TooLong → ⊥ }
 {
     let mut joined = Joined::of(spans);
-    let mut room = [0; ROOM];
+    let mut room = LineRoom::new();
     let mut count = 1;
     let mut end = Position { address: 0, op: 0 };
     let mut answered = 0;

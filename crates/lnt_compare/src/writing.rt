@@ -8,7 +8,7 @@ ghost use Rattle.lnt_compare.specs.Joining.{Any, AreJoined, LeaveOff};
 
 use crate::joined::Joined;
 use crate::line_telling::LineTelling;
-use lnt_records::{ROOM, WriteStop, send, send_full};
+use lnt_records::{LineRoom, WriteStop, send, send_full};
 use lnt_spans::SpanSource;
 use std::alloc::Global;
 use std::io::Write;
@@ -32,7 +32,7 @@ pub(crate) fn write_lines<S: SpanSource + Drop, L: LineTelling, W: Write>(
         (W.contents out.new) (map (L.told telling.now) first))) }
 {
     let mut joined = Joined::of(spans);
-    let mut room = [0; ROOM];
+    let mut room = LineRoom::new();
     let mut block = Vec::new(alloc);
     block.extend_from_slice(telling.header())?;
     while let Some(span) = joined.next_joined(telling, memory)? {

@@ -1,6 +1,6 @@
 -- A table that is parsed line by line. Public contracts speak of the line of a span alone.
-use Rattle.std.specs.Prelude.{◌≡◌, ℕ, Bool, List, [], ◌∷◌, ◌++◌, Option, Some, None}
-use Rattle.lnt_text.specs.Digits.{IsAddress, IsDecimal, IsPlainAddress, IsPlainDecimal}
+use Rattle.std.specs.Prelude.{◌≡◌, ℕ, Bool, List, [], ◌∷◌, ◌++◌, Option, Some, None, decimal}
+use Rattle.lnt_text.specs.Digits.{Begins, IsAddress, IsDecimal, IsPlainAddress, IsPlainDecimal}
 use Rattle.lnt_spans.specs.declared.answer.Answer.{Answer}
 use Rattle.lnt_spans.specs.declared.answer.More.{More}
 use Rattle.lnt_spans.specs.declared.answer.Version.{Version}
@@ -19,6 +19,16 @@ pub record IsPosition (Address Number : List ℕ → ℕ → Type 0) (position :
   pub joined : bytes ≡ address ++ 44 ∷ (op ++ 44 ∷ rest)
   pub address_is : Address address position.address
   pub op_is : Number op position.op
+
+-- the fields of a unit and a file, each with a comma after it; then `rest`
+pub record AreUnitAndFile (Number : List ℕ → ℕ → Type 0) (unit file : ℕ) (bytes rest : List ℕ) : Type 0 where
+  pub later : List ℕ
+  pub unit_is : Begins Number bytes unit 44 later
+  pub file_is : Begins Number later file 44 rest
+
+-- those fields without leading zeros
+abbrev pub unit_and_file : ℕ → ℕ → List ℕ
+unit_and_file unit file = decimal unit ++ 44 ∷ (decimal file ++ 44 ∷ [])
 
 -- 0 or 1, then `rest`
 pub record IsFlagBefore (on : Bool) (bytes rest : List ℕ) : Type 0 where

@@ -33,5 +33,5 @@ pub use lines::first_span;
 pub use reading::{read_next, reader_of};
 pub use record::{RecordFault, span_of};
 pub use taking::{TakeFault, TakesRecords, next_number, take_records};
-pub use text::{ROOM, address_field_before, number_before, put_span_line};
+pub use text::{LineRoom, ROOM, address_field_before, number_before};
 pub use write::{put_header, put_span, send, send_full, write_spans};

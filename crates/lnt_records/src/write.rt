@@ -9,7 +9,7 @@ ghost use Rattle.lnt_records.specs.Progress.{AddsLine};
 
 use crate::fault::WriteStop;
 use crate::header::TableVersion;
-use crate::text::{ROOM, put_span_line};
+use crate::text::LineRoom;
 use lnt_io::{BLOCK, write_whole};
 use lnt_spans::{Span, Version};
 use std::alloc::{AllocError, Global};
@@ -39,7 +39,7 @@ pub fn write_spans<W: Write>(
 {
     let mut block = Vec::new(alloc);
     put_header(&mut block, &version)?;
-    let mut room = [0; ROOM];
+    let mut room = LineRoom::new();
     for span in spans {
         put_span(&mut block, &mut room, span)?;
         send_full(&mut block, out)?;
@@ -81,10 +81,9 @@ pub fn put_header<V: TableVersion>(block: &mut Vec<u8>, version: &V) -> Result<(
 
 /// Adds the line of a span, which is written into `room` first.
 #[inline(always)]
-pub fn put_span(block: &mut Vec<u8>, room: &mut [u8; ROOM], span: &Span) -> Result<(), AllocError>
+pub fn put_span(block: &mut Vec<u8>, room: &mut LineRoom, span: &Span) -> Result<(), AllocError>
     ensures { (version : Version) → IsOfVersion version span.now.answer
         → OnOk result (AddsLine plain_by_number version span.now block.old.items block.new.items) }
 {
-    let start = put_span_line(room, span);
-    block.extend_from_slice(&room[start..])
+    block.extend_from_slice(room.line(span))
 }

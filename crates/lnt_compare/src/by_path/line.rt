@@ -10,7 +10,7 @@ use crate::line_telling::LineTelling;
 use crate::window::Window;
 use lnt_io::{Source, Stop};
 use lnt_records::{
-    PathVersion, Paths, ROOM, TableVersion, addresses_before, place_before, put_line,
+    LineRoom, PathVersion, Paths, ROOM, TableVersion, addresses_before, place_before, put_line,
 };
 use lnt_spans::{Answer, Found, Merge, Span, SpanSource, Telling};
 use std::alloc::{AllocError, Global};
@@ -72,12 +72,20 @@ impl<'p, 'r, P: Paths> LineTelling for PathTelling<'p, 'r, P> {
         &self,
         alloc: Global,
         memory: &mut PathMemory,
-        room: &mut [u8; ROOM],
+        room: &mut LineRoom,
         span: &Span,
         block: &mut Vec<u8>,
     ) -> Result<(), AllocError> {
         let fields = &mut memory.fields;
-        put_line(alloc, self.paths, self.version, fields, room, span, block)
+        put_line(
+            alloc,
+            self.paths,
+            self.version,
+            fields,
+            &mut room.room,
+            span,
+            block,
+        )
     }
 
     #[inline(always)]
@@ -85,14 +93,14 @@ impl<'p, 'r, P: Paths> LineTelling for PathTelling<'p, 'r, P> {
         &self,
         alloc: Global,
         memory: &mut PathMemory,
-        room: &mut [u8; ROOM],
+        room: &mut LineRoom,
         span: &Span,
         source: &mut T,
         window: &mut Window,
     ) -> Result<bool, Stop> {
         let field = memory.fields.take(alloc, self.paths, &span.answer)?;
         window.fill(alloc, source, field.text.len().saturating_add(ROOM))?;
-        if !pass_line(window, room, self.version, &field.text, span) {
+        if !pass_line(window, &mut room.room, self.version, &field.text, span) {
             return Ok(false);
         }
         memory.fields.keep(field);

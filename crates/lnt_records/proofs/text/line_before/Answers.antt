@@ -1,5 +1,5 @@
 use Rattle.lnt_records.proofs.LineLemmas.{line_taken}
-use Rattle.lnt_records.proofs.text.put_span_line.Goals as goal
+use Rattle.lnt_records.proofs.text.line_before.Goals as goal
 
 pub returns-clause-written : goal.returns-clause-written
 returns-clause-written c version is =
