@@ -1,6 +1,6 @@
 -- A machine that does the operations which a walk gives, from some place of a program on.
 use Rattle.std.proofs.Common.{◌≡◌, ℕ, Bool, true, false, List, [], ◌∷◌, refl, sym, ap, subst, ◌∙◌, reverse, cond, Option, Some, None, drop}
-use Rattle.std.proofs.Common.{true≢false}
+use Rattle.std.proofs.Common.{true≢false, is_some, if◌then◌else◌}
 use Rattle.std.specs.List.{cons_option}
 use Rattle.lnt_wire.specs.declared.fault.Fault.{Fault}
 use Rattle.lnt_header.specs.declared.numbers.NumberParts.{NumberParts}
@@ -84,6 +84,15 @@ next_ends {h} {rows} {old} {new} {machine} has ends =
 pub next_fails : {h : NumberParts} {rows : List Row} {fault : Fault} {old new : Walk} {machine : MachineState} → HasRows h rows machine old
     → Fails fault old new → ⊥
 next_fails {h} {rows} {fault} {old} {new} has fails = left_fails h has.later fault old new has.left fails
+
+-- ---- a row that is put in place of another, if one is
+
+pub row_put : (given : Bool) (row : Row) → given ≡ true → (if given then Some row else None) ≡ Some row
+row_put given row is = ap (λ (g : Bool). if g then Some row else None) is
+
+pub none_put : (given : Bool) (row : Row) → given ≡ false → (made : Row) → (if given then Some row else None) ≡ Some made → ⊥
+none_put true row is made same = absurd (true≢false is)
+none_put false row is made same = true≢false (sym (ap is_some same))
 
 -- ---- one sequence
 

@@ -1,5 +1,5 @@
 //! A machine that does one operation after another.
-ghost use Rattle.std.specs.Prelude.{◌≡◌, List, [], ◌∷◌, IfOk, IsOk, IfErr, OnErr};
+ghost use Rattle.std.specs.Prelude.{◌≡◌, List, [], ◌∷◌, IfOk, IsOk, IfErr, OnErr, Some, None, if◌then◌else◌};
 ghost use Rattle.lnt_machine.specs.Registers.{IsLine, line};
 ghost use Rattle.lnt_machine.specs.State.{StandsAfter, LeavesRange, Steps};
 ghost use Rattle.lnt_header.specs.OpRules.{StandsFor, Admits};
@@ -63,6 +63,14 @@ impl<'a> Machine<'a> {
         }
     }
 
+    // The registers.
+    #[inline(always)]
+    pub(crate) fn registers(&self) -> Row
+        ensures { result ≡ self.now.registers }
+    {
+        self.registers
+    }
+
     // A copy of this machine.
     #[inline(always)]
     pub(crate) fn fork(&self) -> Machine<'a>
@@ -94,16 +102,35 @@ impl<'a> Machine<'a> {
         ensures fault { IfErr result (λ fault. fault ≡ RunFault.LineOutOfRange self.old.count) }
         ensures unchanged { OnErr result (self.new ≡ self.old) }
     {
+        let mut row = self.registers;
+        if self.step_into(view, &mut row)? {
+            Ok(Some(row))
+        } else {
+            Ok(None)
+        }
+    }
+
+    // Does an operation as `step` does. True if it appends a row, which is then put into `row`; else nothing is said of `row`.
+    #[inline(always)]
+    pub(crate) fn step_into(&mut self, view: &OpView<'_>, row: &mut Row) -> Result<bool, RunFault>
+        requires { (op : Op) × StandsFor view.now op × Admits self.old.header op }
+        ensures ok { IfOk result (λ appends. Steps view.now self.old self.new (if appends then Some row.new else None)) }
+        ensures in_range { (back : List Op) (op : Op) → StandsAfter self.old back → StandsFor view.now op
+            → IsLine (line self.old.header (op ∷ back)) → IsOk result }
+        ensures out_of_range { OnErr result (LeavesRange view.now self.old) }
+        ensures fault { IfErr result (λ fault. fault ≡ RunFault.LineOutOfRange self.old.count) }
+        ensures unchanged { OnErr result (self.new ≡ self.old) }
+    {
         let Machine {
             numbers,
             registers,
             reciprocal,
             count,
         } = self;
-        let Ok(row) = change(registers, numbers, *reciprocal, view) else {
+        let Ok(appends) = change(registers, numbers, *reciprocal, view, row) else {
             return Err(RunFault::LineOutOfRange(*count));
         };
         *count = count.saturating_add(1);
-        Ok(row)
+        Ok(appends)
     }
 }

@@ -1,5 +1,6 @@
 //! How operations change the registers (DWARF 5, section 6.2.5).
-ghost use Rattle.std.specs.Prelude.{◌≡◌, ◌+◌, ◌*◌, ◌/◌, ◌%◌, ◌^◌, ◌<◌, ◌≤◌, pos, ◌+ℤ◌, unsigned_abs, IfOk, OnOk, OnErr};
+ghost use Rattle.std.specs.Prelude.{◌≡◌, ◌+◌, ◌*◌, ◌/◌, ◌%◌, ◌^◌, ◌<◌, ◌≤◌, pos, ◌+ℤ◌, unsigned_abs, IfOk, OnOk, OnErr, Some, None};
+ghost use Rattle.std.specs.Prelude.{if◌then◌else◌};
 ghost use Rattle.lnt_machine.specs.Changes.{advanced, Changes, initial_registers, IsAllowed, line_reached, plain};
 ghost use Rattle.lnt_machine.specs.Changes.{set_by, special_row, without_flags};
 ghost use Rattle.lnt_machine.specs.Registers.{IsLine};
@@ -37,43 +38,48 @@ pub(crate) fn initial(numbers: &HeaderNumbers) -> Row
     }
 }
 
-// Does an operation, and returns the row that it appends, if any. If the line would be below 0, or 2^32 or more, it fails
-// and leaves the registers unchanged.
+// Does an operation. True if it appends a row, which is then put into `row`; else nothing is said of `row`. If the line would
+// be below 0, or 2^32 or more, it fails and leaves the registers unchanged.
 #[inline(always)]
 pub(crate) fn change(
     registers: &mut Row,
     numbers: &HeaderNumbers,
     reciprocal: u32,
     view: &OpView<'_>,
-) -> Result<Option<Row>, OutOfRange>
+    row: &mut Row,
+) -> Result<bool, OutOfRange>
     requires reciprocal { reciprocal ≡ 65536 / numbers.now.line_range + 1 }
     requires allowed { IsAllowed numbers.now (plain view.now) }
     requires bounded { IsBounded numbers.now registers.old }
-    ensures ok { IfOk result (λ row. Changes numbers.now (plain view.now) registers.old registers.new row) }
+    ensures ok { IfOk result (λ appends. Changes numbers.now (plain view.now) registers.old registers.new
+        (if appends then Some row.new else None)) }
     ensures err { OnErr result (IsLine (line_reached numbers.now registers.old (plain view.now)) → ⊥) }
     ensures unchanged { OnErr result (registers.new ≡ registers.old) }
 {
     match *view {
         OpView::Special(opcode) => {
-            let row = special(registers, numbers, reciprocal, opcode)?;
-            Ok(Some(row))
+            special(registers, numbers, reciprocal, opcode, row)?;
+            Ok(true)
         }
-        OpView::Copy => Ok(Some(append(registers))),
+        OpView::Copy => {
+            append(registers, row);
+            Ok(true)
+        }
         OpView::EndSequence => {
-            let row = Row {
+            *row = Row {
                 end_sequence: true,
                 ..*registers
             };
             *registers = initial(numbers);
-            Ok(Some(row))
+            Ok(true)
         }
         OpView::AdvanceLine(by) => {
             registers.line = moved_line(registers.line, by)?;
-            Ok(None)
+            Ok(false)
         }
         _ => {
             set(registers, numbers, view);
-            Ok(None)
+            Ok(false)
         }
     }
 }
@@ -119,19 +125,20 @@ pub(crate) fn reciprocal_of(numbers: &HeaderNumbers) -> u32
     65536 / u32::from(numbers.line_range()) + 1
 }
 
-// Does a special opcode: advances address and line, and returns the row that it appends.
+// Does a special opcode: advances address and line, and puts the row that it appends into `row`.
 #[inline(always)]
 fn special(
     registers: &mut Row,
     numbers: &HeaderNumbers,
     reciprocal: u32,
     opcode: u8,
-) -> Result<Row, OutOfRange>
+    row: &mut Row,
+) -> Result<(), OutOfRange>
     requires reciprocal { reciprocal ≡ 65536 / numbers.now.line_range + 1 }
     requires allowed { numbers.now.opcode_base ≤ opcode }
     requires bounded { IsBounded numbers.now registers.old }
     ensures line { OnOk result (IsLine (line_reached numbers.now registers.old (Op.Special opcode))) }
-    ensures row { IfOk result (λ row. row ≡ special_row numbers.now registers.old opcode) }
+    ensures row { OnOk result (row.new ≡ special_row numbers.now registers.old opcode) }
     ensures after { OnOk result (registers.new ≡ without_flags (special_row numbers.now registers.old opcode)) }
     ensures err { OnErr result (IsLine (line_reached numbers.now registers.old (Op.Special opcode)) → ⊥) }
     ensures unchanged { OnErr result (registers.new ≡ registers.old) }
@@ -141,8 +148,8 @@ fn special(
     let by = i64::from(numbers.line_base()) + i64::from(lines);
     registers.line = moved_line(registers.line, by)?;
     advance(registers, numbers, u64::from(operations));
-    let row = append(registers);
-    Ok(row)
+    append(registers, row);
+    Ok(())
 }
 
 // The quotient and the remainder of two bytes, by a multiplication with `reciprocal`, which is 2^16 / `divisor` + 1. For
@@ -159,19 +166,18 @@ fn divided(dividend: u8, divisor: u8, reciprocal: u32) -> (u8, u8)
     (quotient, dividend - quotient * divisor)
 }
 
-// Returns the registers as a row, and resets what each row resets: the discriminator and the three flags `basic_block`,
+// Puts the registers into `row`, and resets what each row resets: the discriminator and the three flags `basic_block`,
 // `prologue_end` and `epilogue_begin`.
 #[inline(always)]
-fn append(registers: &mut Row) -> Row
-    ensures row { result ≡ registers.old }
+fn append(registers: &mut Row, row: &mut Row)
+    ensures row { row.new ≡ registers.old }
     ensures reset { registers.new ≡ without_flags registers.old }
 {
-    let row = *registers;
+    *row = *registers;
     registers.discriminator = 0;
     registers.basic_block = false;
     registers.prologue_end = false;
     registers.epilogue_begin = false;
-    row
 }
 
 // Sets the address, and the operation index to 0.

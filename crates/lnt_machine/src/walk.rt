@@ -1,5 +1,6 @@
 //! The rows of one sequence, from its first operation on.
-ghost use Rattle.std.specs.Prelude.{◌≡◌, ◌<◌, ◌≤◌, List, length, reverse, false, IfSome, if◌then◌else◌};
+ghost use Rattle.std.specs.Prelude.{◌≡◌, ◌<◌, ◌≤◌, List, length, reverse, false, Some, None, IfSome, IsTrue};
+ghost use Rattle.std.specs.Prelude.{if◌then◌else◌};
 ghost use Rattle.std.specs.Iterator.{at_most};
 ghost use Rattle.lnt_header.specs.declared.numbers.NumberParts.{NumberParts};
 ghost use Rattle.lnt_header.specs.declared.op.Op.{Op};
@@ -65,6 +66,22 @@ impl<'a> SequenceRows<'a> {
         }
     }
 
+    /// Puts the next row, which `next` would return, into `row` and returns true. False if the rows have ended; then nothing is said of
+    /// `row`, and they stay so. For loops over many rows, since each is written where it is wanted. Allocates nothing.
+    #[inline(never)]
+    pub fn next_into(&mut self, row: &mut Row) -> bool
+        ensures gives { GivesRow self.old (if result then Some row.new else None) self.new }
+        ensures fewer { IsTrue result → (if self.new.ended then 0 else length self.new.walk.at.rest)
+            < (if self.old.ended then 0 else length self.old.walk.at.rest) }
+    {
+        if self.ended {
+            return false;
+        }
+        let given = next_row(&mut self.machine, &mut self.ops, row);
+        self.ended = !given || row.end_sequence;
+        given
+    }
+
     /// Does the next operation, if it is short, and returns the row that it appends, if any. `None` if no short operation
     /// comes next, or the rows have ended; then the same rows are still to come. For loops over many rows, since it is inlined;
     /// `next` returns what comes. Allocates nothing.
@@ -100,94 +117,74 @@ impl<'a> Iterator for SequenceRows<'a> {
 
     #[inline(always)]
     fn next(&mut self) -> Option<Row> {
-        if self.ended {
-            return None;
+        // Only a place for the row.
+        let mut row = self.machine.registers();
+        if self.next_into(&mut row) {
+            Some(row)
+        } else {
+            None
         }
-        let row = next_row(&mut self.machine, &mut self.ops);
-        self.ended = match &row {
-            Some(row) => row.end_sequence,
-            None => true,
-        };
-        row
     }
 }
 
-// The next row that the operations append.
+// Puts the next row that the operations append into `row`. False if they append none; then nothing is said of `row`.
 #[inline(always)]
-fn next_row(machine: &mut Machine<'_>, ops: &mut Ops<'_>) -> Option<Row>
+fn next_row(machine: &mut Machine<'_>, ops: &mut Ops<'_>, row: &mut Row) -> bool
     requires { machine.old.header ≡ ops.old.header }
     ensures same { machine.new.header ≡ ops.new.header }
-    ensures shorter { IfSome result (λ row. length ops.new.at.rest < length ops.old.at.rest) }
+    ensures shorter { IsTrue result → length ops.new.at.rest < length ops.old.at.rest }
     ensures gives { (h : NumberParts) (rows : List spec.Row) → HasRows h rows machine.old ops.old
-        → GivesNext h rows result machine.new ops.new }
+        → GivesNext h rows (if result then Some row.new else None) machine.new ops.new }
 {
-    match short_row(machine, ops) {
-        Some(row) => Some(row),
-        None => row_of_copies(machine, ops),
+    if short_row(machine, ops, row) {
+        return true;
     }
-}
-
-// The same, by the slow path, on copies of both, which are written back: so both stay in registers where the path isn't taken.
-// `inline(always)` would inline it before LLVM knows that no copy has to begin with zeros, and each row would store these.
-#[inline]
-fn row_of_copies(machine: &mut Machine<'_>, ops: &mut Ops<'_>) -> Option<Row>
-    requires { machine.old.header ≡ ops.old.header }
-    ensures same { machine.new.header ≡ ops.new.header }
-    ensures shorter { IfSome result (λ row. length ops.new.at.rest < length ops.old.at.rest) }
-    ensures gives { (h : NumberParts) (rows : List spec.Row) → HasRows h rows machine.old ops.old
-        → GivesNext h rows result machine.new ops.new }
-{
-    let mut own = machine.fork();
-    let mut ahead = ops.fork();
-    let row = any_row(&mut own, &mut ahead);
-    *machine = own;
-    *ops = ahead;
-    row
+    any_row(machine, ops, row)
 }
 
 // The next row, for any operations: the slow path.
 #[tactic(auto, using(crate::proofs::RanLaws::may_step))]
 #[inline(never)]
-fn any_row(machine: &mut Machine<'_>, ops: &mut Ops<'_>) -> Option<Row>
+fn any_row(machine: &mut Machine<'_>, ops: &mut Ops<'_>, row: &mut Row) -> bool
     requires { machine.old.header ≡ ops.old.header }
     ensures same { machine.new.header ≡ ops.new.header }
-    ensures shorter { IfSome result (λ row. length ops.new.at.rest < length ops.old.at.rest) }
+    ensures shorter { IsTrue result → length ops.new.at.rest < length ops.old.at.rest }
     ensures gives { (h : NumberParts) (rows : List spec.Row) → HasRows h rows machine.old ops.old
-        → GivesNext h rows result machine.new ops.new }
+        → GivesNext h rows (if result then Some row.new else None) machine.new ops.new }
 {
     while let Some(op) = ops.next() {
         let Ok(op) = op else {
-            return None;
+            return false;
         };
-        let Ok(made) = machine.step(&op) else {
-            return None;
+        let Ok(appends) = machine.step_into(&op, row) else {
+            return false;
         };
-        if let Some(row) = made {
-            return Some(row);
+        if appends {
+            return true;
         }
     }
-    None
+    false
 }
 
-// The row that the next operations append, if all of them up to it are short. Otherwise `None`; operations that append no
-// row may then already be done.
+// Puts the row that the next operations append into `row`, if all of them up to it are short. Otherwise false; operations that
+// append no row may then already be done.
 #[tactic(auto, using(crate::proofs::RanLaws::may_step))]
 #[inline(always)]
-fn short_row(machine: &mut Machine<'_>, ops: &mut Ops<'_>) -> Option<Row>
+fn short_row(machine: &mut Machine<'_>, ops: &mut Ops<'_>, row: &mut Row) -> bool
     requires { machine.old.header ≡ ops.old.header }
     ensures same { machine.new.header ≡ ops.new.header }
     ensures no_longer { length ops.new.at.rest ≤ length ops.old.at.rest }
-    ensures shorter { IfSome result (λ row. length ops.new.at.rest < length ops.old.at.rest) }
+    ensures shorter { IsTrue result → length ops.new.at.rest < length ops.old.at.rest }
     ensures gives { (h : NumberParts) (rows : List spec.Row) → HasRows h rows machine.old ops.old
-        → ComesNext h rows result machine.new ops.new }
+        → ComesNext h rows (if result then Some row.new else None) machine.new ops.new }
 {
     while let Some(op) = ops.next_short() {
-        let Ok(made) = machine.step(&op) else {
-            return None;
+        let Ok(appends) = machine.step_into(&op, row) else {
+            return false;
         };
-        if let Some(row) = made {
-            return Some(row);
+        if appends {
+            return true;
         }
     }
-    None
+    false
 }

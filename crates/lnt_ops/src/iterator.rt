@@ -85,7 +85,7 @@ impl<'a> Ops<'a> {
         Ops::new(numbers, rest, place + skipped as u64)
     }
 
-    /// A copy of this walk. It is lent to a call that isn't inlined, so that this one can stay in registers.
+    /// A copy of this walk.
     #[inline(always)]
     pub fn fork(&self) -> Ops<'a>
         ensures { result ≡ self.now }

@@ -62,11 +62,11 @@ spans_pass unit spans old new last previous row has gives some at =
     record { rows = found.0; to_come = found.1; spans_are = found.2 ∙ rw test refl }
 
 -- no row is left
-pub spans_end : (unit : ℕ) (spans : List Span) (old new : SequenceWalk) (last : Option Row) → HasSpans unit spans old last
-    → GivesRow old None new → GivesSpan unit spans None new last
-spans_end unit spans old new last has gives =
-    subst (λ (list : List Span). GivesSpan unit list None new last) (sym (by_rows has.rows last has.spans_are (gives has.rows has.to_come)))
-    tt
+pub spans_end : (unit : ℕ) (spans : List Span) (old new : SequenceWalk) (last after : Option Row) → HasSpans unit spans old last
+    → GivesRow old None new → GivesSpan unit spans None new after
+spans_end unit spans old new last after has gives =
+    subst (λ (list : List Span). GivesSpan unit list None new after)
+    (sym (by_rows has.rows last has.spans_are (gives has.rows has.to_come))) tt
   where
     by_rows : (rows : List Row) (last : Option Row) → spans ≡ spans_left unit last rows → GivesFirstRow rows None new → spans ≡ []
     by_rows [] None are g = are

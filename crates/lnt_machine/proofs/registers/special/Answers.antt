@@ -5,14 +5,10 @@ use Rattle.lnt_machine.specs.Changes.{line_reached, special_row, without_flags}
 use Rattle.lnt_machine.specs.Registers.{IsLine}
 use Rattle.lnt_machine.proofs.registers.special.Goals as goal
 
-row_is : (c : goal.After-append-row) → c.append-row.result ≡ special_row c.args.numbers.now c.args.registers.now c.args.opcode
-row_is c = search rules
-
-pub returns-clause-row : goal.returns-clause-row
-returns-clause-row c = row_is c
-
 pub returns-clause-after : goal.returns-clause-after
-returns-clause-after c = c.append-row.ensures.reset ∙ ap without_flags (sym c.append-row.ensures.row ∙ row_is c)
+returns-clause-after c =
+    let row_is : c.append.new.row ≡ special_row c.args.numbers.now c.args.registers.now c.args.opcode = search rules in
+    c.append.ensures.reset ∙ ap without_flags (sym c.append.ensures.row ∙ row_is)
 
 pub returns-clause-line : goal.returns-clause-line
 returns-clause-line c = search rules

@@ -1,38 +1,35 @@
-use Rattle.std.proofs.Common.{arith, subst}
-use Rattle.lnt_spans.specs.declared.position.Position.{Position}
-use Rattle.lnt_spans.specs.Positions.{IsAtMost, IsBelow}
-use Rattle.lnt_spans.proofs.DerivedOrder.{at_most_from_not_lt, below_from_lt}
-use Rattle.lnt_sequences.specs.Sequences.{position_of}
-use Rattle.lnt_sequences.proofs.SpanningLemmas.{spans_end, spans_first, spans_here, spans_pass}
+use Rattle.std.proofs.Common.{◌∙◌, ap, sym, subst, Option, Some, None, is_some, true≢false}
+use Rattle.lnt_machine.specs.declared.row.Row.{Row}
+use Rattle.lnt_machine.specs.Walking.{GivesRow, SequenceWalk}
+use Rattle.lnt_spans.proofs.MergedLemmas.{none_is}
+use Rattle.lnt_sequences.specs.RowSpans.{GivesSpan, HasSpans}
+use Rattle.lnt_sequences.proofs.SpanningLemmas.{spans_end, spans_first}
 use Rattle.lnt_sequences.proofs.spanning.next_span.Goals as goal
+use Rattle.lnt_sequences.proofs.spanning.next_span.Goals.{then-is_none, else-is_none}
 
-pub loop-row-preserved-in_default-before : goal.loop-row-preserved-in_default-before
-loop-row-preserved-in_default-before c = (
-  let less = (c.in-Some.ensures.goes.on tt).2 in omega (arith, less, c.loop-row.invariant.0),
-  λ spans has. spans_first c.args.unit spans c.loop-row.rows c.next.new.self c.loop-row.last c.in-Some.row
-      (c.loop-row.invariant.1 spans has) c.in-Some.ensures.steps c.in_default-before.is,
-)
+pub returns-in-Some-clause-gives : goal.returns-in-Some-clause-gives
+returns-in-Some-clause-gives c spans has =
+    let unit = c.args.unit in
+    let old = c.args.rows.now in
+    let row = c.in-Some.row in
+    let here : HasSpans unit spans c.if-is_none.rows (Some row) =
+    elim c.if-is_none.branch [
+      | then-is_none w ↦ subst (λ (walk : SequenceWalk). HasSpans unit spans walk (Some row)) (sym w.rows-is)
+          (spans_first unit spans old w.next.new.self c.args.last.now row has
+          (subst (λ (r : Option Row). GivesRow old r w.next.new.self) (sym w.last-is ∙ c.in-Some.is) w.next.ensures.steps)
+          (none_is c.args.last.now w.if-is_none.ensures))
+      | else-is_none w ↦ subst (λ (walk : SequenceWalk). HasSpans unit spans walk (Some row)) (sym w.rows-is)
+          (subst (HasSpans unit spans old) (sym w.last-is ∙ c.in-Some.is) has)
+    ] in
+    c.span_after.ensures.gives spans here
 
-pub returns-then-lt-clause-fewer : goal.returns-then-lt-clause-fewer
-returns-then-lt-clause-fewer c = let less = (c.in-Some.ensures.goes.on tt).2 in omega (arith, less, c.loop-row.invariant.0)
-
-pub returns-then-lt-clause-gives : goal.returns-then-lt-clause-gives
-returns-then-lt-clause-gives c spans has = rw (c.position_of-low.ensures, c.position_of-high.ensures, c.answer_of-answer.ensures)
-    (spans_here c.args.unit spans c.loop-row.rows c.next.new.self c.loop-row.last c.in-Some-before.previous c.in-Some.row
-    (c.loop-row.invariant.1 spans has) c.in-Some.ensures.steps c.in-Some-before.is
-    (subst (λ (p : Position). IsBelow p (position_of c.in-Some.row)) c.position_of-low.ensures
-    (subst (λ (q : Position). IsBelow c.position_of-low.result q) c.position_of-high.ensures (below_from_lt c.if-lt.ensures))))
-
-pub loop-row-preserved : goal.loop-row-preserved
-loop-row-preserved c = (
-  let less = (c.in-Some.ensures.goes.on tt).2 in omega (arith, less, c.loop-row.invariant.0),
-  λ spans has. spans_pass c.args.unit spans c.loop-row.rows c.next.new.self c.loop-row.last c.in-Some-before.previous c.in-Some.row
-      (c.loop-row.invariant.1 spans has) c.in-Some.ensures.steps c.in-Some-before.is
-      (subst (λ (p : Position). IsAtMost (position_of c.in-Some.row) p) c.position_of-low.ensures
-      (subst (λ (q : Position). IsAtMost q c.position_of-low.result) c.position_of-high.ensures (at_most_from_not_lt c.if-lt.ensures))),
-)
-
-pub returns-clause-gives : goal.returns-clause-gives
-returns-clause-gives c spans has =
-    spans_end c.args.unit spans c.loop-row.rows c.next.new.self c.loop-row.last (c.loop-row.invariant.1 spans has)
-    c.in_default.ensures.steps
+pub returns-in-None-clause-gives : goal.returns-in-None-clause-gives
+returns-in-None-clause-gives c spans has =
+    let unit = c.args.unit in
+    let old = c.args.rows.now in
+    elim c.if-is_none.branch [
+      | then-is_none w ↦ subst (λ (walk : SequenceWalk). GivesSpan unit spans None walk c.if-is_none.last) (sym w.rows-is)
+          (spans_end unit spans old w.next.new.self c.args.last.now c.if-is_none.last has
+          (subst (λ (r : Option Row). GivesRow old r w.next.new.self) (sym w.last-is ∙ c.in-None.is) w.next.ensures.steps))
+      | else-is_none w ↦ absurd (true≢false (sym w.if-is_none.ensures ∙ ap is_some (sym w.last-is ∙ c.in-None.is)))
+    ]

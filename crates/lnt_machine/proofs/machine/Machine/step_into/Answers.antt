@@ -1,5 +1,5 @@
 use Rattle.lnt_machine.proofs.StepLemmas.{step_bounded, step_in_range, step_refused, steps}
-use Rattle.lnt_machine.proofs.machine.Machine.step.Goals as goal
+use Rattle.lnt_machine.proofs.machine.Machine.step_into.Goals as goal
 
 pub invariant_of-self-2 : goal.invariant_of-self-2
 invariant_of-self-2 c = (
