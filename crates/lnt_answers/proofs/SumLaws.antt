@@ -1,7 +1,7 @@
 -- Findings stay true where more may be told of the files.
 use Rattle.std.proofs.Common.{ℕ, List, [], ◌∷◌, inl, inr, Option, Some, None, IfSome}
 use Rattle.std.specs.List.{AllByRecursion}
-use Rattle.lnt_io.specs.Files.{FileState, Readable, FindsNoMore, Unread, Unreadable}
+use Rattle.lnt_io.specs.Files.{FileState, Overlong, Readable, FindsNoMore, Unread, Unreadable}
 use Rattle.lnt_io.specs.declared.status.Status.{Status}
 use Rattle.lnt_answers.specs.declared.digest.Agreement.{Agreement}
 use Rattle.lnt_lines.specs.Indexed.{file_path_in, file_sum_in, Indexed}
@@ -12,8 +12,9 @@ unreadable_later : (finds finds' : List ℕ → FileState → Type 0) (path : Li
     → IsUnreadable finds path
 unreadable_later finds finds' path later (inl no_text) = inl no_text
 unreadable_later finds finds' path later (inr (inl standard)) = inr (inl standard)
-unreadable_later finds finds' path later (inr (inr (inl told))) = inr (inr (inl (later path Unreadable told)))
-unreadable_later finds finds' path later (inr (inr (inr told))) = inr (inr (inr (later path Unread told)))
+unreadable_later finds finds' path later (inr (inr (inl (inl told)))) = inr (inr (inl (inl (later path Unreadable told))))
+unreadable_later finds finds' path later (inr (inr (inl (inr told)))) = inr (inr (inl (inr (later path Unread told))))
+unreadable_later finds finds' path later (inr (inr (inr told))) = inr (inr (inr (later path Overlong told)))
 
 found_later : (finds finds' : List ℕ → FileState → Type 0) (path listed : List ℕ) (found : Option Agreement)
     → FindsNoMore finds finds' → IsTrueOfFile finds' path listed found → IsTrueOfFile finds path listed found

@@ -7,7 +7,7 @@ use Rattle.lnt_answers.specs.declared.digest.Agreement.TheVariants.{Same, Differ
 use Rattle.std.specs.List.{AllByRecursion, flat_map}
 use Rattle.std.specs.Option.{option_map_or}
 use Rattle.std.specs.Io.KnownBytes.{Appends}
-use Rattle.lnt_io.specs.Files.{FileState, IsUnreadFile, Readable}
+use Rattle.lnt_io.specs.Files.{FileState, IsUnreadFile, Overlong, Readable}
 use Rattle.lnt_io.specs.Prefixes.{AppendsPrefix}
 use Rattle.hex.specs.Hex.{encode_lower}
 use Rattle.md5.specs.Md5.{md5}
@@ -55,9 +55,10 @@ pub record Finding : Type 0 where
 abbrev pub file_of : Finding → ℕ × ℕ
 file_of finding = (finding.unit, finding.file)
 
--- No file is read at this path: it isn't UTF-8; or it is `-`; or the file can't be opened, or can't be read whole.
+-- No file is read at this path: it isn't UTF-8; or it is `-`; or the file can't be opened, or a read of it failed; or it is too long.
 abbrev pub IsUnreadable : (List ℕ → FileState → Type 0) → List ℕ → Type 0
 IsUnreadable finds path = (IsUtf8 path → ⊥) ⊎ (path ≡ codes "-") ⊎ IsUnreadFile (finds path)
+    ⊎ finds path Overlong
 
 -- What was found is true of the file at this path, for which this sum is listed. An agreement is true of the file's bytes, if they
 -- are known; with `None` the file is unreadable.

@@ -1,15 +1,12 @@
 -- Which files stops name, and why.
-use Rattle.std.proofs.Common.{◌≡◌, ◌+◌, ◌∙◌, ◌^◌, ◌<◌, ℕ, Bool, List, Option, subst, refl, string_bytes, ◌⊎◌, inl, inr}
-use Rattle.std.proofs.Common.{Result, Ok, Err, IfErr, IsErrOf, IsTrue, arith, false, true}
-use Rattle.lnt_io.specs.Files.{FileState, FindsNoMore, IsTooLongFile, IsUnreadFile, Readable, Unread, Unreadable}
+use Rattle.std.proofs.Common.{◌≡◌, ◌+◌, ◌∙◌, ◌^◌, ◌<◌, ℕ, List, Option, subst, refl, string_bytes, ◌⊎◌, inl, inr}
+use Rattle.std.proofs.Common.{Result, Ok, Err, IfErr, IsErrOf, IsTrue, arith}
+use Rattle.lnt_io.specs.Files.{FileState, FindsNoMore, IsTooLongFile, IsUnreadFile, Overlong, Readable, Unread, Unreadable}
 use Rattle.lnt_io.specs.Pulling.{HasMoreThan}
-use Rattle.lnt_io.specs.Stopping.{CountsFailure, IsCutShort, IsFoundTooLong}
+use Rattle.lnt_io.specs.Stopping.{CountsFailure, IsFoundTooLong}
 use Rattle.lnt_io.specs.declared.source.Source.{Ghosts}
-use Rattle.lnt_words.specs.declared.request.FileQuestion.{FileQuestion}
-use Rattle.lnt_words.specs.declared.request.FileQuestion.TheVariants.{Check, Lines}
 use Rattle.lnt_words.specs.declared.request.Judging.{Judging}
-use Rattle.lnt_cli.specs.Stops.{IsCausedBy, IsCausedByEither, IsCausedInCheck, IsCausedWith, IsFileOfBoth, IsLongWith, IsOneTooLong}
-use Rattle.lnt_cli.specs.Stops.{IsToldFor, IsToldLong, IsToldUnread, NamesOneOf, TellsCause, TellsFile}
+use Rattle.lnt_cli.specs.Stops.{IsCausedBy, IsCausedByEither, IsToldFor, IsToldLong, IsToldUnread, TellsFile}
 use Rattle.lnt_cli.specs.declared.stop.FileStop.{FileStop}
 use Rattle.lnt_cli.specs.declared.stop.FileStop.TheVariants.{Read, TooLong, Write, Memory}
 
@@ -25,7 +22,7 @@ long_before : (before later : List ℕ → FileState → Type 0) (name : List �
     → IsTooLongFile (later name) → IsTooLongFile (before name)
 long_before before later name less long =
     record {
-      unread = less name Unread long.unread;
+      overlong = less name Overlong long.overlong;
       found = long.found;
       is_found = less name (Readable long.found) long.is_found;
       more = long.more;
@@ -43,25 +40,25 @@ pub record IsOpenOn {R : Type 0} (finds : List ℕ → FileState → Type 0) (fi
   pub name : source.name old ≡ file
   pub found : finds file (Readable (source.remaining old))
   pub left : source.left old ≡ 2 ^ 40
-  pub unread : IsCutShort source new → finds (source.name new) Unread
+  pub unread : 0 < source.failures new → finds (source.name new) Unread
+  pub too_long : IsTrue (source.too_long new) → finds (source.name new) Overlong
 
--- a file whose source doesn't give all its bytes
-cut_short : {R : Type 0} (finds : List ℕ → FileState → Type 0) (file : List ℕ) (source : Ghosts R) (old new : R)
-    → IsOpenOn finds file source old new → source.name new ≡ source.name old → IsCutShort source new → finds file Unread
-cut_short finds file source old new opened same cut =
-    subst (λ (name : List ℕ). finds name Unread) (same ∙ opened.name) (opened.unread cut)
+-- The name of the source's file is that of the file that was opened.
+same_file : {R : Type 0} (IsSo : List ℕ → Type 0) (finds : List ℕ → FileState → Type 0) (file : List ℕ) (source : Ghosts R) (old new : R)
+    → IsOpenOn finds file source old new → source.name new ≡ source.name old → IsSo (source.name new) → IsSo file
+same_file IsSo finds file source old new opened same so = subst IsSo (same ∙ opened.name) so
 
 failed_once : {R : Type 0} (finds : List ℕ → FileState → Type 0) (file : List ℕ) (source : Ghosts R) (old new : R)
     → IsOpenOn finds file source old new → source.name new ≡ source.name old → source.failures new ≡ source.failures old + 1
     → IsUnreadFile (finds file)
 failed_once finds file source old new opened same once =
-    inr (cut_short finds file source old new opened same (inl (omega (arith, once))))
+    inr (same_file (λ name. finds name Unread) finds file source old new opened same (opened.unread (omega (arith, once))))
 
 found_long : {R : Type 0} (finds : List ℕ → FileState → Type 0) (file : List ℕ) (source : Ghosts R) (old new : R)
     → IsOpenOn finds file source old new → source.name new ≡ source.name old
     → IsFoundTooLong (source.too_long new) (source.remaining old) (source.left old) → IsTooLongFile (finds file)
 found_long finds file source old new opened same long = record {
-  unread = cut_short finds file source old new opened same (inr long.is_found);
+  overlong = same_file (λ name. finds name Overlong) finds file source old new opened same (opened.too_long long.is_found);
   found = source.remaining old;
   is_found = opened.found;
   more = subst (λ (count : ℕ). HasMoreThan (source.remaining old) count) opened.left long.more;
@@ -98,58 +95,11 @@ told_by_source finds file source old new Memory cause opened = tt
 
 -- ---- a section and another file
 
--- a file of both that is too long
-long_with : (finds : List ℕ → FileState → Type 0) (from : Judging) (file : List ℕ) (question : FileQuestion) (name : List ℕ)
-    → IsFileOfBoth from file name → IsTooLongFile (finds name) → IsLongWith finds from file question name
-long_with finds from file (Check false ends partial at_least any_copy) name is_one long =
-    record { unread = long.unread; name = name; is_one = is_one; is_long = long }
-long_with finds from file (Check true ends partial at_least any_copy) name is_one long = long
-long_with finds from file (Lines op) name is_one long = long
-
--- A file that was told when both were opened.
-pub told_with : (finds : List ℕ → FileState → Type 0) (from : Judging) (file : List ℕ) (question : FileQuestion) (stop : FileStop)
-    → NamesOneOf (IsFileOfBoth from file) stop → TellsFile finds stop → TellsCause finds (IsLongWith finds from file question) stop
-told_with finds from file question (Read name) named told = told
-told_with finds from file question (TooLong name) named told =
-    long_with finds from file question (string_bytes name) (named (string_bytes name) refl) told
-told_with finds from file question Write named told = tt
-told_with finds from file question Memory named told = tt
-
 -- what is so of each stop
 pub of_stop : {V : Type 0} {IsSo : FileStop → Type 0} (IsThen : FileStop → Type 0) (ended : Result V FileStop) → IfErr ended IsSo
     → ((stop : FileStop) → IsSo stop → IsThen stop) → IfErr ended IsThen
 of_stop IsThen (Ok value) so then = tt
 of_stop IsThen (Err stop) so then = then stop so
-
--- of two sources one was found too long
-one_found : {R T : Type 0} (finds : List ℕ → FileState → Type 0) (from : Judging) (file told : List ℕ) (first : Ghosts R) (old new : R)
-    (second : Ghosts T) (was is : T) → IsOpenOn finds from.section.now first old new → IsOpenOn finds file second was is
-    → finds told Unread
-    → IsToldLong first old new from.section.now from.section.now ⊎ IsToldLong second was is file file
-    → IsOneTooLong finds (IsFileOfBoth from file) told
-one_found finds from file told first old new second was is one other unread (inl long) = record {
-  unread = unread;
-  name = from.section.now;
-  is_one = inl (inl refl);
-  is_long = long_told finds from.section.now from.section.now first old new one long;
-}
-one_found finds from file told first old new second was is one other unread (inr long) =
-    record { unread = unread; name = file; is_one = inr refl; is_long = long_told finds file file second was is other long }
-
--- the one that is told was
-found_told : {R : Type 0} (finds : List ℕ → FileState → Type 0) (file told : List ℕ) (source : Ghosts R) (old new : R)
-    → IsOpenOn finds file source old new → IsToldFor source old new file told (IsTrue (source.too_long new)) → finds told Unread
-found_told finds file told source old new opened found =
-    rw (← found.named) (cut_short finds file source old new opened found.same (inr found.reason))
-
-either_found : {R T : Type 0} (finds : List ℕ → FileState → Type 0) (from : Judging) (file told : List ℕ) (first : Ghosts R) (old new : R)
-    (second : Ghosts T) (was is : T) → IsOpenOn finds from.section.now first old new → IsOpenOn finds file second was is
-    → IsToldFor first old new from.section.now told (IsTrue (first.too_long new))
-    ⊎ IsToldFor second was is file told (IsTrue (second.too_long is)) → finds told Unread
-either_found finds from file told first old new second was is one other (inl found) =
-    found_told finds from.section.now told first old new one found
-either_found finds from file told first old new second was is one other (inr found) =
-    found_told finds file told second was is other found
 
 -- a read of one of them failed
 either_failed : {R T : Type 0} (finds : List ℕ → FileState → Type 0) (from : Judging) (file told : List ℕ) (first : Ghosts R) (old new : R)
@@ -160,21 +110,8 @@ either_failed finds from file told first old new second was is one other (inl ca
 either_failed finds from file told first old new second was is one other (inr cause) =
     once_told finds file told second was is other cause
 
--- the stop of a check
-told_in_check : {R T : Type 0} (finds : List ℕ → FileState → Type 0) (from : Judging) (file : List ℕ) (first : Ghosts R) (old new : R)
-    (second : Ghosts T) (was is : T) (stop : FileStop) → IsCausedInCheck first old new from.section.now second was is file stop
-    → IsOpenOn finds from.section.now first old new → IsOpenOn finds file second was is
-    → TellsCause finds (IsOneTooLong finds (IsFileOfBoth from file)) stop
-told_in_check finds from file first old new second was is (Read name) cause one other =
-    either_failed finds from file (string_bytes name) first old new second was is one other cause
-told_in_check finds from file first old new second was is (TooLong name) cause one other =
-    one_found finds from file (string_bytes name) first old new second was is one other
-    (either_found finds from file (string_bytes name) first old new second was is one other cause.0) cause.1
-told_in_check finds from file first old new second was is Write cause one other = tt
-told_in_check finds from file first old new second was is Memory cause one other = tt
-
 -- the stop of the work on one of both
-told_by_either : {R T : Type 0} (finds : List ℕ → FileState → Type 0) (from : Judging) (file : List ℕ) (first : Ghosts R) (old new : R)
+pub told_by_either : {R T : Type 0} (finds : List ℕ → FileState → Type 0) (from : Judging) (file : List ℕ) (first : Ghosts R) (old new : R)
     (second : Ghosts T) (was is : T) (stop : FileStop) → IsCausedByEither first old new from.section.now second was is file stop
     → IsOpenOn finds from.section.now first old new → IsOpenOn finds file second was is → TellsFile finds stop
 told_by_either finds from file first old new second was is (Read name) cause one other =
@@ -185,14 +122,3 @@ told_by_either finds from file first old new second was is (TooLong name) (inr c
     long_told finds file (string_bytes name) second was is other cause
 told_by_either finds from file first old new second was is Write cause one other = tt
 told_by_either finds from file first old new second was is Memory cause one other = tt
-
-pub told_by_question : {R T : Type 0} (finds : List ℕ → FileState → Type 0) (from : Judging) (file : List ℕ) (question : FileQuestion)
-    (first : Ghosts R) (old new : R) (second : Ghosts T) (was is : T) (stop : FileStop)
-    → IsCausedWith question first old new from.section.now second was is file stop → IsOpenOn finds from.section.now first old new
-    → IsOpenOn finds file second was is → TellsCause finds (IsLongWith finds from file question) stop
-told_by_question finds from file (Check false ends partial at_least any_copy) first old new second was is stop cause one other =
-    told_in_check finds from file first old new second was is stop cause one other
-told_by_question finds from file (Check true ends partial at_least any_copy) first old new second was is stop cause one other =
-    told_by_either finds from file first old new second was is stop cause one other
-told_by_question finds from file (Lines op) first old new second was is stop cause one other =
-    told_by_either finds from file first old new second was is stop cause one other

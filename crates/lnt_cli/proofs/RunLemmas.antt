@@ -9,7 +9,7 @@ use Rattle.lnt_words.specs.declared.stop.WordsStop.{WordsStop}
 use Rattle.lnt_words.specs.declared.stop.WordsStop.TheVariants.{Memory}
 use Rattle.lnt_cli.specs.Answered.{IsAnswered}
 use Rattle.lnt_cli.specs.Runs.{AnswersWords, AskForOne, IsAnswerStop, IsStopOf}
-use Rattle.lnt_cli.specs.Stops.{IsFileIn, IsLongIn, IsOfWords, IsStopped, NamesOneOf, TellsCause, run_stop}
+use Rattle.lnt_cli.specs.Stops.{IsFileIn, IsOfWords, IsStopped, NamesOneOf, TellsFile, run_stop}
 use Rattle.lnt_cli.specs.declared.stop.CliStop.{CliStop}
 use Rattle.lnt_cli.specs.declared.stop.CliStop.TheVariants as run
 use Rattle.lnt_cli.specs.declared.stop.FileStop.{FileStop}
@@ -37,15 +37,6 @@ answer_stopped finds words old new (answer.TooLong name) is = is
 answer_stopped finds words old new answer.Write is = is
 answer_stopped finds words old new answer.Memory is = is
 
--- A file that the answer tells as too long is one that the words ask for.
-long_asked : (finds : List ℕ → FileState → Type 0) (words : List (List ℕ)) (asked : Asked) (stop : FileStop) → IsAskedBy words asked
-    → TellsCause finds (IsLongIn finds asked.request) stop
-    → TellsCause finds (λ name. AskForOne words (λ request. IsLongIn finds request name)) stop
-long_asked finds words asked (answer.Read name) is_asked unread = unread
-long_asked finds words asked (answer.TooLong name) is_asked long = (asked, is_asked, long)
-long_asked finds words asked answer.Write is_asked long = tt
-long_asked finds words asked answer.Memory is_asked long = tt
-
 -- The answer to the request is the answer to the words.
 pub words_answered : (finds : List ℕ → FileState → Type 0) (words : List (List ℕ)) (asked : Asked) (old new : Option (List ℕ))
     (ended : Result Status FileStop) (ran : Result Status CliStop) → IsEndOf ended ran → IsAskedBy words asked
@@ -57,13 +48,13 @@ words_answered finds words asked old new (Err stop) (Err found) is is_asked so =
 -- the same where that answer was stopped
 pub words_stopped : (finds : List ℕ → FileState → Type 0) (words : List (List ℕ)) (asked : Asked) (old new : Option (List ℕ))
     (ended : Result Status FileStop) (ran : Result Status CliStop) → IsEndOf ended ran → IsAskedBy words asked
-    → IfErr ended (NamesOneOf (IsFileIn asked.request)) → IfErr ended (TellsCause finds (IsLongIn finds asked.request))
+    → IfErr ended (NamesOneOf (IsFileIn asked.request)) → IfErr ended (TellsFile finds)
     → OnErr ended (IsStopped finds asked.request old new) → IfErr ran (IsStopOf finds words old new)
 words_stopped finds words asked old new (Ok status) run is is_asked named long stopped = rw is tt
 words_stopped finds words asked old new (Err stop) (Ok status) is is_asked named long stopped = tt
 words_stopped finds words asked old new (Err stop) (Err found) is is_asked named long stopped =
     rw is (answer_stopped finds words old new stop (
       (λ name is_found. (asked, is_asked, named name is_found)),
-      long_asked finds words asked stop is_asked long,
+      long,
       inr (asked, is_asked, stopped),
     ))

@@ -9,7 +9,7 @@ use Rattle.lnt_words.specs.Words.{AskForNothing, IsAskedBy}
 use Rattle.lnt_words.specs.declared.request.Asked.{Asked}
 use Rattle.lnt_words.specs.declared.request.Request.{Request}
 use Rattle.lnt_cli.specs.Answered.{IsAnswered}
-use Rattle.lnt_cli.specs.Stops.{IsStopped, IsFileIn, IsLongIn, MayAnswerUnreadable, NamesOneOf, TellsCause}
+use Rattle.lnt_cli.specs.Stops.{IsStopped, IsFileIn, MayAnswerUnreadable, NamesOneOf, TellsFile}
 use Rattle.lnt_cli.specs.declared.stop.CliStop.{CliStop}
 use Rattle.lnt_cli.specs.declared.stop.CliStop.TheVariants.{Usage, Read, TooLong, Write, Memory}
 use Rattle.lnt_cli.specs.declared.stop.FileStop.{FileStop}
@@ -31,8 +31,7 @@ NameFile words name = AskForOne words (λ request. IsFileIn request name)
 -- so; and nothing was written, or no more than may be where the answer to their request is stopped.
 abbrev pub IsAnswerStop : (List ℕ → FileState → Type 0) → List (List ℕ) → Option (List ℕ) → Option (List ℕ) → FileStop → Type 0
 IsAnswerStop finds words old new stop =
-    NamesOneOf (NameFile words) stop × TellsCause finds (λ name. AskForOne words (λ request. IsLongIn finds request name)) stop
-    × (Keeps old new ⊎ AskForOne words (λ request. IsStopped finds request old new))
+    NamesOneOf (NameFile words) stop × TellsFile finds stop × (Keeps old new ⊎ AskForOne words (λ request. IsStopped finds request old new))
 
 -- Why the run was stopped. With Usage the words ask for nothing, and nothing was written.
 abbrev pub IsStopOf : (List ℕ → FileState → Type 0) → List (List ℕ) → Option (List ℕ) → Option (List ℕ) → CliStop → Type 0

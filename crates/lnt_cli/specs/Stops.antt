@@ -1,7 +1,7 @@
 -- How a run was stopped, and the files that a request names.
-use Rattle.std.specs.Prelude.{◌≡◌, ◌≢◌, ◌⊎◌, ◌+◌, ◌<◌, ℕ, IfSome, IsErrAnd, IsTrue, List, Option, Result, Some, string_bytes}
+use Rattle.std.specs.Prelude.{◌≡◌, ◌≢◌, ◌⊎◌, ◌+◌, ℕ, IfSome, IsErrAnd, List, Option, Result, Some, string_bytes}
 use Rattle.std.specs.Prelude.{Bool, option_copied, false}
-use Rattle.lnt_io.specs.Files.{FileState, IsTooLongFile, IsUnreadFile, Readable, RefusesOnly, Unread}
+use Rattle.lnt_io.specs.Files.{FileState, IsTooLongFile, IsUnreadFile, Readable, RefusesOnly}
 use Rattle.lnt_io.specs.Stopping.{IsFoundTooLong}
 use Rattle.lnt_io.specs.declared.source.Source.{Ghosts}
 use Rattle.lnt_io.specs.declared.io_stop.IoStop.{IoStop}
@@ -83,31 +83,10 @@ IsOfCause HasFailed IsLong (Read file) = HasFailed (string_bytes file)
 IsOfCause HasFailed IsLong (TooLong file) = IsLong (string_bytes file)
 IsOfCause HasFailed IsLong _ = Unit {0}
 
--- A file that the stop tells as unreadable can't be opened, or can't be read whole; and one that it tells as too long is such.
-abbrev pub TellsCause : (List ℕ → FileState → Type 0) → (List ℕ → Type 0) → FileStop → Type 0
-TellsCause finds IsLong stop = IsOfCause (λ name. IsUnreadFile (finds name)) IsLong stop
-
--- the same if the one that is told as too long can't be read whole, and has more than 2^40 bytes, if its bytes are known
+-- A file that the stop tells as unreadable can't be opened, or a read of it failed; and one that it tells as too long has more than
+-- 2^40 bytes, if its bytes are known.
 abbrev pub TellsFile : (List ℕ → FileState → Type 0) → FileStop → Type 0
-TellsFile finds stop = TellsCause finds (λ name. IsTooLongFile (finds name)) stop
-
--- The file with this name (told) can't be read whole, and one of these has more than 2^40 bytes, if its bytes are known.
-pub record IsOneTooLong (finds : List ℕ → FileState → Type 0) (AreThese : List ℕ → Type 0) (told : List ℕ) : Type 0 where
-  pub unread : finds told Unread
-  pub name : List ℕ
-  pub is_one : AreThese name
-  pub is_long : IsTooLongFile (finds name)
-
--- The file with this name can't be read whole, and has more than 2^40 bytes, if its bytes are known; for a check without --all, one of
--- its files has.
-abbrev pub IsLongWith : (List ℕ → FileState → Type 0) → Judging → List ℕ → FileQuestion → List ℕ → Type 0
-IsLongWith finds from file (Check false ends partial at_least any_copy) name = IsOneTooLong finds (IsFileOfBoth from file) name
-IsLongWith finds from file question name = IsTooLongFile (finds name)
-
--- the same of a file that a stop of this request tells as too long
-abbrev pub IsLongIn : (List ℕ → FileState → Type 0) → Request → List ℕ → Type 0
-IsLongIn finds (JudgeWith from file question) name = IsLongWith finds from file.now question name
-IsLongIn finds _ name = IsTooLongFile (finds name)
+TellsFile finds = IsOfCause (λ name. IsUnreadFile (finds name)) (λ name. IsTooLongFile (finds name))
 
 -- ---- files that the opener refused
 
@@ -169,21 +148,6 @@ abbrev pub IsCausedByEither : {R T : Type 0} → Ghosts R → R → R → List �
 IsCausedByEither first old new name second was is other = IsOfCause
     (λ file. IsToldUnread first old new name file ⊎ IsToldUnread second was is other file)
     (λ file. IsToldLong first old new name file ⊎ IsToldLong second was is other file)
-
--- The same of a check. The file that is told as too long is that of a source that was found so, and one of both has more bytes than it
--- may give.
-abbrev pub IsCausedInCheck : {R T : Type 0} → Ghosts R → R → R → List ℕ → Ghosts T → T → T → List ℕ → FileStop → Type 0
-IsCausedInCheck first old new name second was is other = IsOfCause
-    (λ file. IsToldUnread first old new name file ⊎ IsToldUnread second was is other file)
-    (λ file. (IsToldFor first old new name file (IsTrue (first.too_long new))
-    ⊎ IsToldFor second was is other file (IsTrue (second.too_long is)))
-    × (IsToldLong first old new name name ⊎ IsToldLong second was is other other))
-
--- the same of the question about a section and a file
-abbrev pub IsCausedWith : {R T : Type 0} → FileQuestion → Ghosts R → R → R → List ℕ → Ghosts T → T → T → List ℕ → FileStop → Type 0
-IsCausedWith (Check false ends partial at_least any_copy) first old new name second was is other =
-    IsCausedInCheck first old new name second was is other
-IsCausedWith question first old new name second was is other = IsCausedByEither first old new name second was is other
 
 -- ---- what was written if the answer to a request was stopped: nothing, or a prefix of an answer
 --     tells       what the opener may say of the file with a name, as the run begins

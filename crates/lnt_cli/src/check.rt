@@ -3,7 +3,7 @@ ghost use Rattle.std.specs.Prelude.{◌≡◌, ◌-◌, ◌^◌, ◌<◌, ◌⊎
 ghost use Rattle.std.specs.Io.KnownBytes.{Keeps};
 ghost use Rattle.lnt_io.specs.Stopping.{CountsFailures, IsEitherTooLongOn};
 ghost use Rattle.lnt_cli.specs.Answered.{IsChecked, IsTrueBy, options_by, options_in};
-ghost use Rattle.lnt_cli.specs.Stops.{BeginsChecked, IsCausedInCheck, IsFileOfBoth, NamesOneOf};
+ghost use Rattle.lnt_cli.specs.Stops.{BeginsChecked, IsCausedByEither, IsFileOfBoth, NamesOneOf};
 ghost use Rattle.lnt_table.specs.AnyVersion.{IsOfScope, IsTrueOfSectionWithin};
 
 use crate::inputs::{Opened, of_file};
@@ -49,7 +49,7 @@ pub(crate) fn check_table<'t, S: Source, F: Source, W: Write>(
     ensures stopped { OnErr result (Keeps (W.contents out.old) (W.contents out.new)
         ⊎ BeginsChecked from.now asked.any_copy asked.scope asked.at_least (W.contents out.old) (W.contents out.new)
         (F.remaining other.old) files.old.texts.line.items files.old.texts.general.items (S.remaining files.old.section)) }
-    ensures cause { IfErr result (IsCausedInCheck ⟦<S as Source>⟧ files.old.section files.new.section from.now.section.now
+    ensures cause { IfErr result (IsCausedByEither ⟦<S as Source>⟧ files.old.section files.new.section from.now.section.now
         ⟦<F as Source>⟧ other.old other.new table.now) }
 {
     let checked = judge_table(alloc, from, table, asked, files, other)?;
@@ -78,7 +78,7 @@ fn judge_table<S: Source, F: Source>(
         IsTrueOfSectionWithin files.old.texts.line.items files.old.texts.general.items
         (options_by asked.any_copy (options_in from.now)) bytes checked)) }
     ensures of_scope { IfOk result (λ checked. IsOfScope checked asked.scope) }
-    ensures cause { IfErr result (IsCausedInCheck ⟦<S as Source>⟧ files.old.section files.new.section from.now.section.now
+    ensures cause { IfErr result (IsCausedByEither ⟦<S as Source>⟧ files.old.section files.new.section from.now.section.now
         ⟦<F as Source>⟧ other.old other.new table.now) }
 {
     let strings = files.texts.strings();

@@ -4,7 +4,7 @@ ghost use Rattle.lnt_io.specs.Files.{RefusesOnly};
 ghost use Rattle.lnt_notes.specs.Notes.{WritesNotes};
 ghost use Rattle.lnt_cli.specs.Answered.{IsAnswered};
 ghost use Rattle.lnt_cli.specs.Runs.{AnswersWords, IsStopOf, NameUnreadable};
-ghost use Rattle.lnt_cli.specs.Stops.{IsFileIn, IsLongIn, IsNamedUnreadable, IsStopped, NamesOneOf, TellsCause};
+ghost use Rattle.lnt_cli.specs.Stops.{IsFileIn, IsNamedUnreadable, IsStopped, NamesOneOf, TellsFile};
 
 use crate::notes::{Answered, note_word, print_notes};
 use crate::question::{answer_file, answer_question};
@@ -41,10 +41,9 @@ pub fn run<O: Files, W: Write>(
 ///
 /// A run stops with `Usage` only if the words ask for nothing (`AskForNothing`), before a file is opened and with nothing
 /// written; with `Read` or `TooLong` for a file that the words name (`NameFile`), with `Read` only for one that can't be opened or
-/// of which a read failed, and with `TooLong` only for one that couldn't be read whole and has more than 2^40 bytes; of a check
-/// without `--all` one of both files has (`TellsCause`, `IsLongIn`); with `Write` if `out` failed, after a prefix of the text; and
-/// with `Memory` (`IsStopOf`). What [`answer`] states was written if it stops. If the opener refuses a file, it stops with `Read` and
-/// that file's name, and for no other reason (`NameUnreadable`), except once it judges listed sums.
+/// of which a read failed, and with `TooLong` only for one that has more than 2^40 bytes (`TellsFile`); with `Write` if `out` failed,
+/// after a prefix of the text; and with `Memory` (`IsStopOf`). What [`answer`] states was written if it stops. If the opener refuses a
+/// file, it stops with `Read` and that file's name, and for no other reason (`NameUnreadable`), except once it judges listed sums.
 ///
 /// Advice for a person is written to `notes`, to be shown after the answer: a line for each note, which begins with `linetab: note: `
 /// and has no other line feed, and nothing else (`WritesNotes`). It is nothing if the words ask for no notes. A run doesn't stop if
@@ -90,10 +89,9 @@ pub fn run_with_notes<O: Files, W: Write, N: Write>(
 ///
 /// If it stops, a prefix of an answer has been written, and nothing else (`IsStopped`). It stops with `Read` or `TooLong` for a
 /// file that the request names (`IsFileIn`), with `Read` only if it can't be opened or a read of it failed, and with `TooLong` only
-/// if it couldn't be read whole and has more than 2^40 bytes; of a check without `--all` one of both files has (`TellsCause`,
-/// `IsLongIn`); with `Write` if `out` failed; and with `Memory`. If the opener refuses a file, it stops with `Read` and that file's
-/// name (`IsNamedUnreadable`). Listed sums are the exception: once the section is open, a listed file that is refused is part of the
-/// answer.
+/// if it has more than 2^40 bytes (`TellsFile`); with `Write` if `out` failed; and with `Memory`. If the opener refuses a file, it
+/// stops with `Read` and that file's name (`IsNamedUnreadable`). Listed sums are the exception: once the section is open, a listed
+/// file that is refused is part of the answer.
 pub fn answer<O: Files, W: Write, N: Write>(
     alloc: Global,
     asked: &Asked<'_>,
@@ -107,7 +105,7 @@ pub fn answer<O: Files, W: Write, N: Write>(
     ensures stopped { OnErr result (IsStopped (O.finds opener.old) asked.now.request (W.contents out.old) (W.contents out.new)) }
     ensures refused { RefusesOnly (IsNamedUnreadable (O.finds opener.old) asked.now.request result)
         (O.refused opener.old) (O.refused opener.new) }
-    ensures cause { IfErr result (TellsCause (O.finds opener.old) (IsLongIn (O.finds opener.old) asked.now.request)) }
+    ensures cause { IfErr result (TellsFile (O.finds opener.old)) }
     ensures notes { WritesNotes (N.contents notes.old) (N.contents notes.new) }
     ensures quiet { IsTrue asked.now.quiet → notes.new ≡ notes.old }
 {
@@ -133,7 +131,7 @@ fn answer_request<'r, O: Files, W: Write>(
     ensures stopped { OnErr result (IsStopped (O.finds opener.old) request.now (W.contents out.old) (W.contents out.new)) }
     ensures refused { RefusesOnly (IsNamedUnreadable (O.finds opener.old) request.now result)
         (O.refused opener.old) (O.refused opener.new) }
-    ensures cause { IfErr result (TellsCause (O.finds opener.old) (IsLongIn (O.finds opener.old) request.now)) }
+    ensures cause { IfErr result (TellsFile (O.finds opener.old)) }
 {
     match request {
         Request::Help(text) => {

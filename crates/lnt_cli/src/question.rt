@@ -9,8 +9,7 @@ ghost use Rattle.lnt_cli.specs.Answered.{AnswersFile, AnswersQuestion, AnswersWi
 ghost use Rattle.lnt_cli.specs.Questions.{AnswersGood, AnswersGoodFile, AnswersJudged, BeginsGood, BeginsGoodFile, BeginsJudged};
 ghost use Rattle.lnt_cli.specs.Questions.{asks_copies};
 ghost use Rattle.lnt_cli.specs.Stops.{AnswersUnreadable, BeginsFile, BeginsQuestion, BeginsWith, IsCausedBy, IsCausedByEither};
-ghost use Rattle.lnt_cli.specs.Stops.{IsCausedWith, IsFileOf, IsFileOfBoth, IsLongWith, IsUnreadable, NamesOneOf, StopsIfRefused};
-ghost use Rattle.lnt_cli.specs.Stops.{TellsCause, TellsFile};
+ghost use Rattle.lnt_cli.specs.Stops.{IsFileOf, IsFileOfBoth, IsUnreadable, NamesOneOf, StopsIfRefused, TellsFile};
 
 use crate::check::{TableCheck, check_table};
 use crate::inputs::{Opened, Texts, of_file, open_judged, open_other};
@@ -108,7 +107,7 @@ pub(crate) fn answer_file<'f, O: Files, W: Write>(
     ensures stopped { OnErr result (Keeps (W.contents out.old) (W.contents out.new)
         ⊎ BeginsFile (O.finds opener.old) from.now file.now question (W.contents out.old) (W.contents out.new)) }
     ensures refused { StopsIfRefused result (O.refused opener.old) (O.refused opener.new) }
-    ensures cause { IfErr result (TellsCause (O.finds opener.old) (IsLongWith (O.finds opener.old) from.now file.now question)) }
+    ensures cause { IfErr result (TellsFile (O.finds opener.old)) }
 {
     let mut files = open_judged(alloc, opener, from, seen)?;
     let mut other = open_other(alloc, opener, file)?;
@@ -136,7 +135,7 @@ fn answer_with<'f, S: Source, F: Source, W: Write>(
     ensures stopped { OnErr result (Keeps (W.contents out.old) (W.contents out.new)
         ⊎ BeginsWith from.now question (W.contents out.old) (W.contents out.new)
         (F.remaining other.old) files.old.texts.line.items files.old.texts.general.items (S.remaining files.old.section)) }
-    ensures cause { IfErr result (IsCausedWith question ⟦<S as Source>⟧ files.old.section files.new.section from.now.section.now
+    ensures cause { IfErr result (IsCausedByEither ⟦<S as Source>⟧ files.old.section files.new.section from.now.section.now
         ⟦<F as Source>⟧ other.old other.new file.now) }
 {
     match question {

@@ -3,15 +3,17 @@ use Rattle.std.specs.Prelude.{◌≡◌, ◌+◌, ◌^◌, ◌≤◌, ◌⊎◌,
 use Rattle.lnt_io.specs.Pulling.{HasMoreThan}
 
 -- What may be known of a file: that it can't be opened; that it can be, and all its bytes, where `None` says that nothing is claimed
--- of them; or that it can be opened, and can't be read whole.
+-- of them; or that it can be opened, but a read of it failed, or it was found to have more bytes than are read.
 pub data FileState : Type 0 where
   Unreadable : FileState
   Readable : Option (List ℕ) → FileState
   Unread : FileState
+  Overlong : FileState
 
--- The same, and that the file can't be read whole. So it is of a file if nobody takes note that it couldn't be read.
+-- The same, and that the file can't be read whole, for either reason. So it is of a file if nobody takes note that it couldn't be read.
 abbrev pub OrUnread : (FileState → Type 0) → FileState → Type 0
 OrUnread finds Unread = ⊤
+OrUnread finds Overlong = ⊤
 OrUnread finds state = finds state
 
 -- No more is known of any file afterwards (new) than before (old).
@@ -28,14 +30,14 @@ pub record AreBytesOf (finds : FileState → Type 0) (bytes : List ℕ) : Type 0
   pub is_found : finds (Readable found)
   pub same : IfSome found (λ all. bytes ≡ all)
 
--- A file of which this may be known can't be read whole, and has more than 2^40 bytes, if its bytes are known.
+-- A file of which this may be known was found to have more bytes than are read: more than 2^40, if its bytes are known.
 pub record IsTooLongFile (finds : FileState → Type 0) : Type 0 where
-  pub unread : finds Unread
+  pub overlong : finds Overlong
   pub found : Option (List ℕ)
   pub is_found : finds (Readable found)
   pub more : HasMoreThan found (2 ^ 40)
 
--- A file of which this may be known can't be opened, or can't be read whole.
+-- A file of which this may be known can't be opened, or a read of it failed.
 abbrev pub IsUnreadFile : (FileState → Type 0) → Type 0
 IsUnreadFile finds = finds Unreadable ⊎ finds Unread
 

@@ -1,5 +1,5 @@
 -- What a call that pulls from a source says of it where it stops. The source is old before the call and new after it.
-use Rattle.std.specs.Prelude.{◌≡◌, ◌≢◌, ℕ, ◌+◌, ◌<◌, ◌⊎◌, Bool, IsTrue, List, Option, Result, Err, IsErrOf}
+use Rattle.std.specs.Prelude.{◌≡◌, ◌≢◌, ℕ, ◌+◌, ◌<◌, ◌⊎◌, Bool, IsTrue, false, List, Option, Result, Err, IsErrOf}
 use Rattle.lnt_io.specs.declared.source.Source.{Ghosts}
 use Rattle.lnt_io.specs.Pulling.{HasMoreThan}
 
@@ -18,7 +18,7 @@ pub record IsFoundTooLong (found : Bool) (remaining : Option (List ℕ)) (left :
 abbrev pub IsTooLongOn : {R : Type 0} → Ghosts R → R → R → {C E : Type 0} → Result C E → E → Type 0
 IsTooLongOn source old new answer stop = IsErrOf answer stop → IsFoundTooLong (source.too_long new) (source.remaining old) (source.left old)
 
--- A read of the source failed, or it was found too long. So it doesn't give all its bytes.
+-- A read of the source failed, or it was found too long. So it didn't give all its bytes.
 abbrev pub IsCutShort : {R : Type 0} → Ghosts R → R → Type 0
 IsCutShort source now = (0 < source.failures now) ⊎ IsTrue (source.too_long now)
 
@@ -33,8 +33,8 @@ pub record CountsFailures {R T : Type 0} (first : Ghosts R) (old new : R) (secon
   pub first_name : first.name new ≡ first.name old
   pub second_name : second.name is ≡ second.name was
 
--- One of them is too long if the call stopped with stop.
+-- One of them is too long if the call stopped with stop: the first, or the second where the first isn't.
 abbrev pub IsEitherTooLongOn : {R T : Type 0} → Ghosts R → R → R → Ghosts T → T → T → {C E : Type 0} → Result C E → E → Type 0
 IsEitherTooLongOn first old new second was is answer stop = IsErrOf answer stop
     → IsFoundTooLong (first.too_long new) (first.remaining old) (first.left old)
-    ⊎ IsFoundTooLong (second.too_long is) (second.remaining was) (second.left was)
+    ⊎ (IsFoundTooLong (second.too_long is) (second.remaining was) (second.left was) × (first.too_long new ≡ false))

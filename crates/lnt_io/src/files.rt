@@ -1,6 +1,6 @@
 //! Files by their names, as the command reads them.
-ghost use Rattle.std.specs.Prelude.{◌≡◌, ◌≢◌, ◌^◌, ℕ, List, IfOk, IfErr, IfSome, IsErrOf, IsNone, ⊤, false};
-ghost use Rattle.lnt_io.specs.Files.{AreBytesOf, FileState, Readable, RefusesOnly, FindsNoMore, Unread, Unreadable};
+ghost use Rattle.std.specs.Prelude.{◌≡◌, ◌≢◌, ◌^◌, ◌<◌, ℕ, List, IfOk, IfErr, IfSome, IsErrOf, IsNone, IsTrue, ⊤, false};
+ghost use Rattle.lnt_io.specs.Files.{AreBytesOf, FileState, Overlong, Readable, RefusesOnly, FindsNoMore, Unread, Unreadable};
 ghost use Rattle.lnt_io.specs.Files.{IsTooLongFile, IsUnreadFile, OpensOnce, OpensOnly, OrUnread};
 ghost use Rattle.lnt_io.specs.Stopping.{IsCutShort};
 ghost use Rattle.lnt_io.specs.declared.io_stop.IoStop.TheVariants.{Write};
@@ -35,10 +35,13 @@ pub trait Files {
         ensures refused { RefusesOnly (λ other. IsNone result × (name.now ≡ other)) (refused self.old) (refused self.new) }
         ensures opened { OpensOnce name.now (opens self.old) (opens self.new) };
 
-    /// Takes note that a file couldn't be read whole: its source failed, or was found too long.
+    /// Takes note that a file couldn't be read whole, and why: its source failed, or was found too long, or both.
     fn could_not_read<'n, V: Watcher>(&mut self, file: &OpenedFile<'n, Self::Reader, V>)
         requires { IsCutShort ⟦<OpenedFile<'n, Self::Reader, V> as Source>⟧ file.now }
-        ensures unread { finds self.old (⟦<OpenedFile<'n, Self::Reader, V> as Source>⟧.name file.now) Unread }
+        ensures unread { 0 < ⟦<OpenedFile<'n, Self::Reader, V> as Source>⟧.failures file.now
+            → finds self.old (⟦<OpenedFile<'n, Self::Reader, V> as Source>⟧.name file.now) Unread }
+        ensures too_long { IsTrue (⟦<OpenedFile<'n, Self::Reader, V> as Source>⟧.too_long file.now)
+            → finds self.old (⟦<OpenedFile<'n, Self::Reader, V> as Source>⟧.name file.now) Overlong }
         ensures later { FindsNoMore (finds self.old) (finds self.new) }
         ensures refused { RefusesOnly (λ _. ⊥) (refused self.old) (refused self.new) }
         ensures opened { OpensOnly (λ _. ⊥) (opens self.old) (opens self.new) };

@@ -1,8 +1,7 @@
 //! A file that is read, and its name.
-ghost use Rattle.std.specs.Prelude.{◌≡◌, ◌^◌, IfErr, IfOk, IsErrOf, false};
-ghost use Rattle.lnt_io.specs.Files.{FindsNoMore, OpensOnly, OpensOnce, Readable, RefusesOnly, Unread, Unreadable};
+ghost use Rattle.std.specs.Prelude.{◌≡◌, ◌^◌, ◌<◌, IfErr, IfOk, IsErrOf, IsTrue, false};
+ghost use Rattle.lnt_io.specs.Files.{FindsNoMore, OpensOnly, OpensOnce, Overlong, Readable, RefusesOnly, Unread, Unreadable};
 ghost use Rattle.lnt_io.specs.IoStops.{IsOpening};
-ghost use Rattle.lnt_io.specs.Stopping.{IsCutShort};
 
 use crate::source::{ReadFault, Source};
 use crate::watcher::{WatchedReader, Watcher};
@@ -49,10 +48,12 @@ impl<'n, R: Read + Drop, V: Watcher + Drop> OpenedFile<'n, R, V> {
         Ok(OpenedFile { name, source })
     }
 
-    /// Has the opener take note if the file couldn't be read whole: if this source failed, or was found too long.
+    /// Has the opener take note if the file couldn't be read whole: if this source failed, and if it was found too long.
     pub fn tell_unread<O: Files<Reader = R>>(&self, opener: &mut O)
-        ensures unread { IsCutShort ⟦<OpenedFile<'n, R, V> as Source>⟧ self.now
+        ensures unread { 0 < ⟦<OpenedFile<'n, R, V> as Source>⟧.failures self.now
             → O.finds opener.old (⟦<OpenedFile<'n, R, V> as Source>⟧.name self.now) Unread }
+        ensures too_long { IsTrue (⟦<OpenedFile<'n, R, V> as Source>⟧.too_long self.now)
+            → O.finds opener.old (⟦<OpenedFile<'n, R, V> as Source>⟧.name self.now) Overlong }
         ensures later { FindsNoMore (O.finds opener.old) (O.finds opener.new) }
         ensures refused { RefusesOnly (λ _. ⊥) (O.refused opener.old) (O.refused opener.new) }
         ensures opened { OpensOnly (λ _. ⊥) (O.opens opener.old) (O.opens opener.new) }

@@ -1,5 +1,5 @@
 //! A whole section, judged.
-ghost use Rattle.std.specs.Prelude.{◌≡◌, ◌-◌, ◌^◌, ◌<◌, true, IfOk, IfErr, IfSome};
+ghost use Rattle.std.specs.Prelude.{◌≡◌, ◌-◌, ◌^◌, ◌<◌, true, false, IfOk, IfErr, IfSome};
 ghost use Rattle.lnt_lines.specs.Judging.{IsIndexOfSection, IsIndexWithCopies, IsJudged, IsJudgedIndex, IsJudgedWithCopies};
 ghost use Rattle.lnt_lines.specs.Stepping.{IsDraftOfSection, IsRefusal};
 ghost use Rattle.lnt_unit.specs.declared.reader.Progress.TheVariants.{Reading};
@@ -60,6 +60,7 @@ pub fn verify<R: Source>(
         IsJudged strings.now.line.now strings.now.general.now options.now bytes judged)) }
     ensures failures { CountsFailure ⟦<R as Source>⟧ section.old section.new result Stop.Read }
     ensures too_long { IsTooLongOn ⟦<R as Source>⟧ section.old section.new result Stop.TooLong }
+    ensures whole { (lines : Lines) → result ≡ Ok (Judged.Good lines) → R.too_long section.new ≡ false }
 {
     match index_section(alloc, section, strings, options)? {
         JudgedIndex::Good(index) => Ok(Judged::Good(lines_of(alloc, &index)?)),
@@ -80,6 +81,7 @@ pub fn index_section<'a, R: Source>(
         IsJudgedIndex strings.now.line.now strings.now.general.now options.now bytes judged)) }
     ensures failures { CountsFailure ⟦<R as Source>⟧ section.old section.new result Stop.Read }
     ensures too_long { IsTooLongOn ⟦<R as Source>⟧ section.old section.new result Stop.TooLong }
+    ensures whole { (index : Index) → result ≡ Ok (JudgedIndex.Good index) → R.too_long section.new ≡ false }
 {
     index_as(alloc, section, strings, options, false)
 }
@@ -97,6 +99,7 @@ pub fn index_with_copies<'a, R: Source>(
         IsJudgedWithCopies strings.now.line.now strings.now.general.now options.now bytes judged)) }
     ensures failures { CountsFailure ⟦<R as Source>⟧ section.old section.new result Stop.Read }
     ensures too_long { IsTooLongOn ⟦<R as Source>⟧ section.old section.new result Stop.TooLong }
+    ensures whole { (index : Index) → result ≡ Ok (JudgedIndex.Good index) → R.too_long section.new ≡ false }
 {
     index_as(alloc, section, strings, options, true)
 }
@@ -116,6 +119,7 @@ fn index_as<'a, R: Source>(
         IsJudgedWithCopies strings.now.line.now strings.now.general.now options.now bytes judged)) }
     ensures failures { CountsFailure ⟦<R as Source>⟧ section.old section.new result Stop.Read }
     ensures too_long { IsTooLongOn ⟦<R as Source>⟧ section.old section.new result Stop.TooLong }
+    ensures whole { (index : Index) → result ≡ Ok (JudgedIndex.Good index) → R.too_long section.new ≡ false }
 {
     match judge_section(alloc, section, strings, options, with_copies) {
         Ok(index) => Ok(JudgedIndex::Good(index)),
@@ -141,6 +145,7 @@ fn judge_section<'a, R: Source>(
         IsRefusal strings.now.line.now strings.now.general.now options.now bytes refusal)) }
     ensures failures { CountsFailure ⟦<R as Source>⟧ section.old section.new result (Refusal.Stop Stop.Read) }
     ensures too_long { IsTooLongOn ⟦<R as Source>⟧ section.old section.new result (Refusal.Stop Stop.TooLong) }
+    ensures whole { IfOk result (λ _. R.too_long section.new ≡ false) }
 {
     let mut reader = SectionReader::new(section, options.order);
     let draft = judge_units(alloc, &mut reader, strings, options)?;
@@ -164,6 +169,7 @@ fn judge_units<R: Source>(
         IsRefusal strings.now.line.now strings.now.general.now options.now bytes refusal)) }
     ensures failures { CountsFailure ⟦<R as Source>⟧ (source_of reader.old) (source_of reader.new) result (Refusal.Stop Stop.Read) }
     ensures too_long { IsTooLongOn ⟦<R as Source>⟧ (source_of reader.old) (source_of reader.new) result (Refusal.Stop Stop.TooLong) }
+    ensures whole { IfOk result (λ _. R.too_long (source_of reader.new) ≡ false) }
     ensures same_reference { loan_of reader.new ≡ loan_of reader.old }
 {
     let mut draft = Draft::new(alloc);

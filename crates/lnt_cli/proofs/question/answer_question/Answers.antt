@@ -36,6 +36,8 @@ returns-clause-cause g c =
       name = files.name;
       found = files.found;
       left = files.left;
-      unread = λ cut.
-          c.open_judged.ensures.later _ _ (c.answer_opened-answered.ensures.later _ _ (c.tell_unread.ensures.unread cut));
+      unread = λ failed.
+          c.open_judged.ensures.later _ _ (c.answer_opened-answered.ensures.later _ _ (c.tell_unread.ensures.unread failed));
+      too_long = λ found.
+          c.open_judged.ensures.later _ _ (c.answer_opened-answered.ensures.later _ _ (c.tell_unread.ensures.too_long found));
     }))

@@ -15,12 +15,6 @@ returns-in-Check-false-default-default-default-default-clause-stopped g c =
     rw (arm.is, ← sym arm.all-test ∙ arm.all-is, ← arm.partial-is, ← arm.at_least-is, ← arm.any_copy-is, ← c.of-scope.ensures)
     c.check_table.ensures.stopped
 
-pub returns-in-Check-false-default-default-default-default-clause-cause :
-    goal.returns-in-Check-false-default-default-default-default-clause-cause
-returns-in-Check-false-default-default-default-default-clause-cause g c =
-    let arm = c.in-Check-false-default-default-default-default in
-    rw (arm.is, ← sym arm.all-test ∙ arm.all-is) c.check_table.ensures.cause
-
 pub returns-in-Check-true-default-default-default-default-clause-answer :
     goal.returns-in-Check-true-default-default-default-default-clause-answer
 returns-in-Check-true-default-default-default-default-clause-answer g c =
@@ -33,17 +27,8 @@ returns-in-Check-true-default-default-default-default-clause-stopped g c =
     let arm = c.in-Check-true-default-default-default-default in
     rw (arm.is, ← sym arm.all-test ∙ arm.all-is) (rw arm.is at c.answer_both.ensures.stopped)
 
-pub returns-in-Check-true-default-default-default-default-clause-cause :
-    goal.returns-in-Check-true-default-default-default-default-clause-cause
-returns-in-Check-true-default-default-default-default-clause-cause g c =
-    let arm = c.in-Check-true-default-default-default-default in
-    rw (arm.is, ← sym arm.all-test ∙ arm.all-is) c.answer_both.ensures.cause
-
 pub returns-in-Lines-clause-answer : goal.returns-in-Lines-clause-answer
 returns-in-Lines-clause-answer g c = rw c.in-Lines.is (rw c.in-Lines.is at c.answer_both-in-Lines.ensures.answer)
 
 pub returns-in-Lines-clause-stopped : goal.returns-in-Lines-clause-stopped
 returns-in-Lines-clause-stopped g c = rw c.in-Lines.is (rw c.in-Lines.is at c.answer_both-in-Lines.ensures.stopped)
-
-pub returns-in-Lines-clause-cause : goal.returns-in-Lines-clause-cause
-returns-in-Lines-clause-cause g c = rw c.in-Lines.is c.answer_both-in-Lines.ensures.cause

@@ -21,7 +21,8 @@ returns-clause-unread g c stop =
       name = file.name;
       found = file.found;
       left = file.left;
-      unread = λ cut. c.open.ensures.later _ _ (c.tell_unread.ensures.unread cut);
+      unread = λ failed. c.open.ensures.later _ _ (c.tell_unread.ensures.unread failed);
+      too_long = λ found. c.open.ensures.later _ _ (c.tell_unread.ensures.too_long found);
     })
 
 pub returns-clause-too_long : goal.returns-clause-too_long
@@ -32,5 +33,6 @@ returns-clause-too_long g c stop =
       name = file.name;
       found = file.found;
       left = file.left;
-      unread = λ cut. c.open.ensures.later _ _ (c.tell_unread.ensures.unread cut);
+      unread = λ failed. c.open.ensures.later _ _ (c.tell_unread.ensures.unread failed);
+      too_long = λ found. c.open.ensures.later _ _ (c.tell_unread.ensures.too_long found);
     })
