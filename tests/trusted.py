@@ -22,7 +22,7 @@ YES = [
     ("Rattle.lnt_cli.specs.Answered", "options_in"),
     ("Rattle.lnt_table.specs.Headline", "AnswersRight"),
     ("Rattle.lnt_lines.specs.Good", "IsGood"),
-    ("Rattle.lnt_records.specs.Table", "BeginsWith"),
+    ("Rattle.lnt_csv.specs.Records", "BeginsWith"),
     ("Rattle.lnt_records.specs.Table", "column_names"),
     ("Rattle.lnt_compare.specs.Comparisons", "IsTableWhere"),
     ("Rattle.lnt_records.specs.PathTables", "by_path"),

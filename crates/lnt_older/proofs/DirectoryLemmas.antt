@@ -1,10 +1,10 @@
 -- Offsets that rise, and the directories of units.
 use Rattle.std.proofs.Common.{◌≡◌, ◌≢◌, ◌∙◌, ℕ, ◌+◌, ◌-◌, ◌<◌, ◌≤◌, Bool, true, false, List, [], ◌∷◌, ◌++◌, length, get_or, Result, Ok, Err}
 use Rattle.std.proofs.Common.{Option, Some, None, inl, inr, refl, sym, arith, zero, suc, MatchBool, is_ok}
-use Rattle.lnt_records.specs.Reading.{BytesReader, HasRead}
-use Rattle.lnt_records.proofs.ReadingLaws.{first_same}
-use Rattle.lnt_records.specs.Table.{BeginsWith, Fields}
-use Rattle.lnt_records.proofs.TableLaws.{zip_push}
+use Rattle.lnt_csv.specs.Reading.{BytesReader, HasRead}
+use Rattle.lnt_csv.proofs.RecordLaws.{one_beginning}
+use Rattle.lnt_csv.specs.Records.{BeginsWith, Fields}
+use Rattle.lnt_csv.proofs.RecordLaws.{zip_push}
 use Rattle.csv.specs.Reading.{reader_state}
 use Rattle.std.specs.List.{AllZip}
 use Rattle.std.specs.List.Sorted.{IsBinarySearchResult, IsNonDecreasingBy}
@@ -106,7 +106,7 @@ pub columns_found : (named : Bool) (reader : BytesReader) (bytes : List ℕ) (fi
     → MatchBool named (HasRead reader bytes (directory_names ∷ [])) (BeginsWith bytes (directory_names ∷ []) → ⊥)
 columns_found true reader bytes fields read is = rw is at read
 columns_found false reader bytes fields read other = λ begins.
-    other (first_same bytes fields directory_names (reader_state reader, read.rest, read.reached) begins)
+    other (one_beginning bytes fields directory_names (reader_state reader, read.rest, read.reached) begins)
 
 -- ---- one directory after others
 

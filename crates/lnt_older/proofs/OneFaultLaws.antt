@@ -24,7 +24,7 @@ use Rattle.lnt_header_bytes.specs.HeaderFaults.IsStartFault.{header_length as of
 use Rattle.lnt_header_bytes.proofs.HeaderLaws.{below}
 use Rattle.lnt_header_bytes.proofs.StartReaders.{start_fault}
 use Rattle.lnt_header.specs.Joins.{PlacedFrom}
-use Rattle.lnt_records.proofs.RecordLaws.{same_least}
+use Rattle.lnt_csv.proofs.RecordLaws.{same_least}
 use Rattle.lnt_unit.proofs.OneFaultLemmas.{same_fault}
 use Rattle.lnt_older.specs.OlderBytes.{version_number, OlderVersion}
 use Rattle.lnt_older.specs.Directories.{directory_at, Directory, IsBadRecord}

@@ -4,10 +4,10 @@ use Rattle.std.specs.List.{AllZip}
 use Rattle.std.proofs.lemmas.Bool.Decides.{eqb_tells}
 use Rattle.std.proofs.lemmas.List.{get_or_append_left, length-append, map-append}
 use Rattle.lnt_header.specs.Joins.{AreRising}
-use Rattle.lnt_records.specs.Table.{Fields}
-use Rattle.lnt_records.proofs.BeginningLaws.{first_begins, records_begin}
-use Rattle.lnt_records.proofs.RecordLaws.{one_list, prefix_of, same_least, stands_before}
-use Rattle.lnt_records.proofs.TableLaws.{zip_push}
+use Rattle.lnt_csv.specs.Records.{Fields}
+use Rattle.lnt_csv.proofs.RecordLaws.{first_begins, records_begin}
+use Rattle.lnt_csv.proofs.RecordLaws.{one_list, prefix_of, same_least, stands_before}
+use Rattle.lnt_csv.proofs.RecordLaws.{zip_push}
 use Rattle.lnt_text.proofs.TextLaws.{one_decimal_number}
 use Rattle.lnt_older.specs.Directories.{AreDirectories, AreRecords, HasBadRecord, IsAmong, IsBadRecord, IsDirectoryFile, IsDirectoryRecord}
 use Rattle.lnt_older.specs.Directories.{directory_at, directory_names, units_of, Directory}

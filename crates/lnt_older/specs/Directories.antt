@@ -7,7 +7,7 @@ use Rattle.std.specs.List.{AllZip, Any, find}
 use Rattle.std.specs.Option.{option_map_or}
 use Rattle.lnt_header.specs.Joins.{AreRising}
 use Rattle.lnt_text.specs.Digits.{IsDecimal}
-use Rattle.lnt_records.specs.Table.{BeginsWith, Fields, RecordsOf}
+use Rattle.lnt_csv.specs.Records.{BeginsWith, Fields, RecordsOf}
 use Rattle.lnt_wire.specs.FormBytes.{HasNoZero}
 pub use Rattle.lnt_older.specs.declared.directories.Directory.{Directory}
 use Rattle.lnt_older.specs.declared.section.UpgradeFault.{UpgradeFault}

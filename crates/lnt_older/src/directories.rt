@@ -2,14 +2,14 @@
 ghost use Rattle.std.specs.Prelude.{◌≡◌, ℕ, List, [], ◌∷◌, IfErr, IfOk, MatchOption, Some, MatchBool};
 ghost use Rattle.lnt_header.specs.Joins.{AreRising};
 ghost use Rattle.csv.specs.Records.{fields_of};
-ghost use Rattle.lnt_records.specs.Reading.{HasRead};
-ghost use Rattle.lnt_records.specs.Table.{BeginsWith};
+ghost use Rattle.lnt_csv.specs.Reading.{HasRead};
+ghost use Rattle.lnt_csv.specs.Records.{BeginsWith};
 ghost use Rattle.lnt_older.specs.Directories.{AreDirectories, IsAdded, IsDirectoryFile, IsDirectoryRecord, IsLastUnit, IsListingFault};
 ghost use Rattle.lnt_older.specs.Directories.{IsNext, IsAmong, MayFollow, directory_at, directory_names, Directory as Spec};
 
 use crate::section::UpgradeFault;
 use csv::{ByteRecord, Reader};
-use lnt_records::{field, has_fields, read_next, reader_of};
+use lnt_csv::{field, has_fields, read_next, reader_of};
 use lnt_text::decimal;
 use std::alloc::{AllocError, Global};
 

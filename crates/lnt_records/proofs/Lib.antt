@@ -11,8 +11,6 @@ pub mod PathLineLemmas
 pub mod PathRecordLemmas
 pub mod PrefixLaws
 pub mod QuotingLaws
-pub mod ReadingLaws
-pub mod RecordLaws
 pub mod RecordLemmas
 pub mod SaidLemmas
 pub mod TableLaws

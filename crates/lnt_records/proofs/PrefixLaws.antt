@@ -8,9 +8,10 @@ use Rattle.csv.specs.declared.parser.State.{State}
 use Rattle.csv.specs.declared.parser.State.TheVariants as st
 use Rattle.lnt_records.specs.Reading.{EndsWide, IsPrefixOf, IsNarrow, IsReadAs, IsReadFor}
 use Rattle.lnt_records.specs.Table.{BeginsWith, Fields, RecordsOf}
-use Rattle.lnt_records.proofs.BeginningLaws.{records_begin}
-use Rattle.lnt_records.proofs.ReadingLaws.{first_same, record_left, same_read}
-use Rattle.lnt_records.proofs.RecordLaws.{begins_all, one_end, one_list}
+use Rattle.lnt_csv.proofs.RecordLaws.{records_begin}
+use Rattle.lnt_csv.proofs.RecordLaws.{one_beginning}
+use Rattle.lnt_csv.proofs.ReadingLaws.{record_left, same_read}
+use Rattle.lnt_csv.proofs.RecordLaws.{begins_all, one_end, one_list}
 use Rattle.lnt_records.proofs.WideLemmas.{more_read, outside_comment, stripped_prefix}
 
 -- ---- one record
@@ -188,7 +189,7 @@ prefix_first prefix bytes f long ends fields narrow h = by_records ends.records 
     by_first : (other : Fields) → BeginsWith prefix (other ∷ []) → BeginsWith prefix (fields ∷ [])
     by_first other b =
         let begun = prefix_begins prefix bytes f long ends [] other b in
-        by_begun other b begun.0 begun.1 (first_same bytes begun.0 fields begun.2 h)
+        by_begun other b begun.0 begun.1 (one_beginning bytes begun.0 fields begun.2 h)
 
     by_records : (records : List Fields) (last : Fields) → RecordsOf prefix (records ++ last ∷ []) → BeginsWith prefix (fields ∷ [])
     by_records [] last all = by_first last (records_begin prefix last [] all)

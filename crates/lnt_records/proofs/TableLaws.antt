@@ -6,7 +6,8 @@ use Rattle.lnt_records.specs.Faults.{HasFaultyRecordIn, IsFaultIn, IsFaultyIn, T
 use Rattle.lnt_records.specs.Reading.{IsReadAs}
 use Rattle.lnt_records.specs.Table.{BeginsWith, Fields, IsOfColumn, IsTableIn, IsTableOfIn, RecordsOf, TableFormat}
 use Rattle.lnt_records.proofs.BeginningLaws.{faulty_begins, table_begins}
-use Rattle.lnt_records.proofs.RecordLaws.{prefix_of, one_end, one_list, same_least, stands_before}
+pub use Rattle.lnt_csv.proofs.RecordLaws.{zip_push}
+use Rattle.lnt_csv.proofs.RecordLaws.{prefix_of, one_end, one_list, same_least, stands_before}
 
 -- What these laws need of a format: a header is of one version, a record of one span, its fields are as many as the columns and of
 -- their kinds, and the first spans of some in order are in order.
@@ -20,13 +21,6 @@ pub record FormatLaws {V X : Type 0} (format : TableFormat V X) : Type 0 where
   pub prefix : (xs ys : List X) → format.InOrder (xs ++ ys) → format.InOrder xs
 
 -- ---- one more record
-
-pub zip_push : {A B : Type 0} (R : A → B → Type 0) (xs : List A) (ys : List B) (x : A) (y : B) → AllZip R xs ys → R x y
-    → AllZip R (xs ++ x ∷ []) (ys ++ y ∷ [])
-zip_push R [] [] x y z h = (h, tt)
-zip_push R [] (b ∷ ys) x y z h = absurd z
-zip_push R (a ∷ xs) [] x y z h = absurd z
-zip_push R (a ∷ xs) (b ∷ ys) x y z h = (z.0, zip_push R xs ys x y z.1 h)
 
 pub table_push : {V X : Type 0} (format : TableFormat V X) (version : V) (records : List Fields) (table : List X) (fields : Fields)
     (span : X) → IsTableIn format version records table → format.Says version fields span → format.InOrder (table ++ span ∷ [])

@@ -2,10 +2,12 @@
 use Rattle.std.proofs.Common.{◌≡◌, ℕ, Bool, true, false, List, [], ◌∷◌, ◌++◌, append_assoc, sym, subst, MatchBool}
 use Rattle.std.specs.List.{AllByRecursion}
 use Rattle.lnt_records.specs.Progress.{IsCutAfter}
-use Rattle.lnt_records.specs.Reading.{BytesReader, HasRead, IsNarrow, IsReadAs, IsReadFor}
+use Rattle.lnt_csv.specs.Reading.{BytesReader, HasRead}
+use Rattle.lnt_records.specs.Reading.{IsNarrow, IsReadAs, IsReadFor}
 use Rattle.lnt_records.specs.Table.{BeginsWith, Fields, RecordsOf}
-use Rattle.lnt_records.proofs.BeginningLaws.{first_begins}
-use Rattle.lnt_records.proofs.ReadingLaws.{begins, first_same, no_record}
+use Rattle.lnt_csv.proofs.RecordLaws.{first_begins}
+use Rattle.lnt_csv.proofs.RecordLaws.{one_beginning}
+use Rattle.lnt_csv.proofs.ReadingLaws.{begins, no_record}
 
 pub all_pushed : {X : Type 0} (P : X → Type 0) (xs : List X) (x : X) → AllByRecursion P xs → P x → AllByRecursion P (xs ++ x ∷ [])
 all_pushed P [] x all p = (p, tt)
@@ -22,7 +24,7 @@ first_there reader prefix text first fields false r few b h = absurd (no_record 
 pub first_is : (reader : BytesReader) (prefix text : List ℕ) (first fields : Fields) (more : List Fields) → IsReadFor prefix text
     → IsNarrow first → BeginsWith text (first ∷ []) → HasRead reader prefix (fields ∷ more) → fields ≡ first
 first_is reader prefix text first fields more r few b h =
-    first_same prefix fields first (first_begins prefix fields more (begins reader prefix (fields ∷ more) h)) (r.first first few b)
+    one_beginning prefix fields first (first_begins prefix fields more (begins reader prefix (fields ∷ more) h)) (r.first first few b)
 
 -- ---- the bytes
 

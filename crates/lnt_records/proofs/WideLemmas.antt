@@ -9,9 +9,11 @@ use Rattle.csv.specs.declared.parser.Action.TheVariants as act
 use Rattle.csv.specs.declared.parser.State.{State}
 use Rattle.csv.specs.declared.parser.State.TheVariants as st
 use Rattle.csv.specs.declared.parser.Terminator.TheVariants as term
-use Rattle.lnt_records.specs.Reading.{BytesReader, HasRead, IsPrefixOf}
+use Rattle.lnt_csv.specs.Reading.{BytesReader, HasRead}
+use Rattle.lnt_records.specs.Reading.{IsPrefixOf}
 use Rattle.lnt_records.specs.Table.{BeginsWith, Fields}
-use Rattle.lnt_records.proofs.ReadingLaws.{first_same, same_read}
+use Rattle.lnt_csv.proofs.RecordLaws.{one_beginning}
+use Rattle.lnt_csv.proofs.ReadingLaws.{same_read}
 
 -- ---- a record that has begun
 
@@ -248,5 +250,5 @@ prefix_fields reader prefix bytes found h f le fields begins =
     let is : next_record default_config st.StartRecord [] [] (strip_bom bytes) ≡ Some whole.read =
     ap (next_record default_config st.StartRecord [] []) joined ∙ whole.is in
     let other : BeginsWith bytes (whole.read.0 ∷ []) = (whole.read.1, whole.read.2, (whole.read, is, refl, (refl, refl))) in
-    let same : whole.read.0 ≡ fields = first_same bytes whole.read.0 fields other begins in
+    let same : whole.read.0 ≡ fields = one_beginning bytes whole.read.0 fields other begins in
     omega (arith, whole.fields, ap (λ (r : Fields). length r) same, ap (λ (r : Fields). length r) first.2)

@@ -1,27 +1,13 @@
 -- An address table, in terms of the records that `csv` reads from its bytes: first of any format, then by number.
 use Rattle.std.specs.Prelude.{◌≡◌, ℕ, Bool, true, false, List, [], ◌∷◌, ◌++◌, Option, Some, None, length, get_or, codes}
 use Rattle.std.specs.List.{AllZip}
-use Rattle.csv.specs.Reading.{AreRecords, Reached, default_config, strip_bom}
-use Rattle.csv.specs.declared.parser.State.{State}
-use Rattle.csv.specs.declared.parser.State.TheVariants as state
+pub use Rattle.lnt_csv.specs.Records.{BeginsWith, Fields, RecordsOf}
 use Rattle.lnt_text.specs.Digits.{IsAddress, IsDecimal}
 use Rattle.lnt_spans.specs.declared.answer.More.{More}
 use Rattle.lnt_spans.specs.declared.answer.Version.{Version}
 use Rattle.lnt_spans.specs.declared.answer.Version.TheVariants.{One, Two}
 use Rattle.lnt_spans.specs.declared.span.Span.{Span}
 use Rattle.lnt_spans.specs.Spans.{AreInOrder}
-
--- A record is a list of fields, and a field is a list of bytes.
-abbrev pub Fields : Type 0
-Fields = List (List ℕ)
-
--- these are all records of the bytes
-abbrev pub RecordsOf : List ℕ → List Fields → Type 0
-RecordsOf bytes records = AreRecords default_config state.StartRecord (strip_bom bytes) records
-
--- the records of the bytes begin with these
-abbrev pub BeginsWith : List ℕ → List Fields → Type 0
-BeginsWith bytes records = (after : State) × (rest : List ℕ) × Reached default_config state.StartRecord (strip_bom bytes) records after rest
 
 -- ---- columns
 

@@ -1,5 +1,5 @@
 //! The fields of a record, by column.
-ghost use Rattle.std.specs.Prelude.{◌≡◌, ◌≢◌, ◌+◌, ◌<◌, [], length, map, get_or, IfOk, IfErr, OnOk, MatchOption, Bool, MatchBool};
+ghost use Rattle.std.specs.Prelude.{◌≡◌, ◌+◌, ◌<◌, [], length, get_or, IfOk, IfErr, OnOk, MatchOption, Bool};
 ghost use Rattle.csv.specs.Records.{fields_of};
 ghost use Rattle.lnt_text.specs.Digits.{IsAddress, IsDecimal};
 ghost use Rattle.lnt_records.specs.Progress.{AreSoundBefore, IsColumnFault, IsColumnOf};
@@ -8,6 +8,7 @@ ghost use Rattle.lnt_records.specs.Table as table;
 
 use crate::record::RecordFault;
 use csv::ByteRecord;
+use lnt_csv::field;
 
 /// The columns of a table. Contracts see their kinds, `columns`; at run time there is nothing of them.
 pub trait Columns {
@@ -24,34 +25,6 @@ impl Columns for ByNumber {
     ghost use Rattle.lnt_records.specs.Table.{kinds};
 
     ghost columns = { kinds };
-}
-
-/// The field in column `i` of a record. The caller makes sure that the record has that column.
-#[tactic(auto, using(crate::proofs::ColumnLemmas::field_is, crate::proofs::ColumnLemmas::field_there))]
-pub fn field(row: &ByteRecord, i: usize) -> &[u8]
-    requires { i < length (fields_of row.now) }
-    ensures { result.now ≡ get_or (fields_of row.now) i [] }
-{
-    let Some(field) = row.get(i) else {
-        unreachable!()
-    };
-    field
-}
-
-/// Whether the fields of a record are these.
-pub fn has_fields(row: &ByteRecord, fields: &[&[u8]]) -> bool
-    ensures { MatchBool result (fields_of row.now ≡ map (λ field. field.now) fields.now)
-        (fields_of row.now ≢ map (λ field. field.now) fields.now) }
-{
-    if row.len() != fields.len() {
-        return false;
-    }
-    for (i, one) in fields.iter().enumerate() {
-        if field(row, i) != *one {
-            return false;
-        }
-    }
-    true
 }
 
 /// Reads the address in column `i`. The caller makes sure that this is a column of addresses, that the record has it, and that

@@ -3,10 +3,9 @@ ghost use Rattle.std.specs.Prelude.{◌≡◌, ◌≤◌, ◌∷◌, [], length,
 ghost use Rattle.lnt_spans.specs.declared.answer.Version.{Version};
 ghost use Rattle.lnt_records.specs.Table.{BeginsWith, column_count, column_names};
 
-use crate::column::has_fields;
-use crate::reading::{read_next, reader_of};
 use crate::wide::begins_wide;
 use csv::ByteRecord;
+use lnt_csv::{has_fields, read_next, reader_of};
 use lnt_spans::Version;
 use std::alloc::{AllocError, Global};
 

@@ -15,7 +15,6 @@ mod fault;
 mod header;
 pub mod laws;
 mod lines;
-mod reading;
 mod record;
 mod taking;
 mod text;
@@ -26,11 +25,10 @@ pub use by_path::{
     FileText, FileTexts, PathFields, PathRecord, PathVersion, Paths, SaidPath, ToldFile, ToldFiles,
     addresses_before, first_record, place_before, put_line, record_of,
 };
-pub use column::{Columns, address_at, decimal_at, field, has_fields};
+pub use column::{Columns, address_at, decimal_at};
 pub use fault::{TableFault, WriteStop};
 pub use header::{TableVersion, header_of};
 pub use lines::first_span;
-pub use reading::{read_next, reader_of};
 pub use record::{RecordFault, span_of};
 pub use taking::{TakeFault, TakesRecords, next_number, take_records};
 pub use text::{LineRoom, ROOM, address_field_before, number_before};

@@ -7,10 +7,10 @@ ghost use Rattle.lnt_records.specs.Reading.{IsNarrow, IsReadAs};
 ghost use Rattle.lnt_records.specs.Table.{BeginsWith, Fields, RecordsOf};
 
 use crate::fault::TableFault;
-use crate::reading::{read_next, reader_of};
 use crate::record::RecordFault;
 use crate::wide::up_to_wide;
 use csv::ByteRecord;
+use lnt_csv::{read_next, reader_of};
 use std::alloc::{AllocError, AllocFailed, Global};
 
 /// Why a record wasn't taken.

@@ -3,8 +3,8 @@ ghost use Rattle.std.specs.Prelude.{◌<◌, IsTrue, IfOk, [], ◌∷◌, length
 ghost use Rattle.lnt_records.specs.Reading.{EndsWide, IsPrefixOf, IsReadFor};
 ghost use Rattle.lnt_records.specs.Table.{BeginsWith, Fields};
 
-use crate::reading::{read_next, reader_of};
 use csv::ByteRecord;
+use lnt_csv::{read_next, reader_of};
 use lnt_io::BLOCK;
 use std::alloc::{AllocError, Global};
 

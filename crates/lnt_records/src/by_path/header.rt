@@ -3,9 +3,9 @@ ghost use Rattle.std.specs.Prelude.{◌≡◌};
 ghost use Rattle.lnt_records.specs.PathTables.{path_column_count};
 
 use crate::by_path::version::PathVersion;
-use crate::column::has_fields;
 use crate::header::TableVersion;
 use csv::ByteRecord;
+use lnt_csv::has_fields;
 
 impl TableVersion for PathVersion {
     ghost use Rattle.lnt_records.specs.PathTables.{path_column_names};

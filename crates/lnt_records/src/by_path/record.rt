@@ -7,9 +7,10 @@ ghost use Rattle.lnt_records.specs.Progress.{AreSoundBefore, IsColumnFault, IsRe
 
 use crate::by_path::header::columns;
 use crate::by_path::version::PathVersion;
-use crate::column::{Columns, address_at, decimal_at, field};
+use crate::column::{Columns, address_at, decimal_at};
 use crate::record::RecordFault;
 use csv::ByteRecord;
+use lnt_csv::field;
 
 /// The answer of a record; the path is borrowed.
 #[derive(Clone, Copy)]

@@ -1,5 +1,5 @@
 use Rattle.std.proofs.Common.{[]}
-use Rattle.lnt_records.proofs.ReadingLaws.{no_record}
+use Rattle.lnt_csv.proofs.ReadingLaws.{no_record}
 use Rattle.lnt_older.specs.Directories.{directory_names}
 use Rattle.lnt_older.proofs.DirectoryLemmas.{columns_found}
 use Rattle.lnt_older.proofs.directories.read_columns.Goals as goal

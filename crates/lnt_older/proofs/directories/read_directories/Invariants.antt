@@ -1,6 +1,6 @@
 use Rattle.std.specs.Prelude.{◌∷◌, List}
-use Rattle.lnt_records.specs.Reading.{HasRead, bytes_left, known_length}
-use Rattle.lnt_records.specs.Table.{Fields}
+use Rattle.lnt_csv.specs.Reading.{HasRead, bytes_left, known_length}
+use Rattle.lnt_csv.specs.Records.{Fields}
 use Rattle.lnt_older.specs.Directories.{AreRecords, directory_names}
 use Rattle.lnt_older.proofs.directories.read_directories.Given as goal
 

@@ -1,5 +1,6 @@
 use Rattle.std.proofs.Common.{[], arith}
-use Rattle.lnt_records.proofs.ReadingLaws.{header_found, no_record}
+use Rattle.lnt_records.proofs.HeaderLaws.{header_found}
+use Rattle.lnt_csv.proofs.ReadingLaws.{no_record}
 use Rattle.lnt_records.proofs.header.header_of.Goals as goal
 
 pub returns-then-branch : goal.returns-then-branch

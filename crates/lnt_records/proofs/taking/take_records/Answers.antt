@@ -1,7 +1,7 @@
 use Rattle.std.proofs.Common.{◌≡◌, ◌++◌, ◌∷◌, [], append-nil, append_assoc, arith, length, length-append, subst, sym}
 use Rattle.csv.specs.Records.{fields_of}
 use Rattle.lnt_records.specs.Reading.{IsNarrow}
-use Rattle.lnt_records.proofs.ReadingLaws.{begins}
+use Rattle.lnt_csv.proofs.ReadingLaws.{begins}
 use Rattle.lnt_records.proofs.TakingLemmas.{all_on, all_pushed, begins_on, cut_at, first_is, first_there}
 use Rattle.lnt_records.proofs.taking.take_records.Goals as goal
 

@@ -1,7 +1,8 @@
 use Rattle.std.specs.Prelude.{◌≡◌, ◌+◌, ◌++◌, ◌∷◌, ℕ, List, length}
 use Rattle.std.specs.List.{AllByRecursion}
 use Rattle.lnt_spans.specs.declared.span.Span.{Span}
-use Rattle.lnt_records.specs.Reading.{HasRead, IsNarrow, IsReadFor, bytes_left, known_length}
+use Rattle.lnt_csv.specs.Reading.{HasRead, bytes_left, known_length}
+use Rattle.lnt_records.specs.Reading.{IsNarrow, IsReadFor}
 use Rattle.lnt_records.specs.Table.{Fields}
 use Rattle.lnt_records.proofs.taking.take_records.Given as goal
 

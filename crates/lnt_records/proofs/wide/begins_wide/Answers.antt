@@ -1,6 +1,6 @@
 use Rattle.std.proofs.Common.{◌<◌, ◌≤◌, [], ◌∷◌, length, arith, ltb-true}
 use Rattle.csv.specs.Records.{fields_of}
-use Rattle.lnt_records.specs.Reading.{HasRead}
+use Rattle.lnt_csv.specs.Reading.{HasRead}
 use Rattle.lnt_records.proofs.WideLemmas.{prefix_fields}
 use Rattle.lnt_records.proofs.wide.begins_wide.Goals as goal
 

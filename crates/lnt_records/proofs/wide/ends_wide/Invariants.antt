@@ -1,5 +1,5 @@
 use Rattle.std.specs.Prelude.{◌<◌, List}
-use Rattle.lnt_records.specs.Reading.{HasRead, bytes_left, known_length}
+use Rattle.lnt_csv.specs.Reading.{HasRead, bytes_left, known_length}
 use Rattle.lnt_records.specs.Table.{Fields}
 use Rattle.lnt_records.proofs.PrefixLaws.{EndsIn}
 use Rattle.lnt_records.proofs.wide.ends_wide.Given as goal

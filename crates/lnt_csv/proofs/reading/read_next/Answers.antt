@@ -1,6 +1,6 @@
 use Rattle.csv.specs.Records.{fields_of}
-use Rattle.lnt_records.proofs.ReadingLaws.{less_left, more_read}
-use Rattle.lnt_records.proofs.reading.read_next.Goals as goal
+use Rattle.lnt_csv.proofs.ReadingLaws.{less_left, more_read}
+use Rattle.lnt_csv.proofs.reading.read_next.Goals as goal
 
 pub returns-clause-read : goal.returns-clause-read
 returns-clause-read c = λ bytes records h. more_read _ _ _ _ bytes records h (c.in-Ok.ensures.ready h.trim) c.in-Ok.ensures.flexible

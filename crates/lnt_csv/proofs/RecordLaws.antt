@@ -2,12 +2,15 @@
 -- the longer.
 use Rattle.std.proofs.Common.{◌≡◌, ◌∙◌, ℕ, ◌<◌, ◌≤◌, List, [], ◌∷◌, ◌++◌, length, refl, sym, ap, subst, None, arith, append_assoc, ⊎_elim}
 use Rattle.std.proofs.Common.{length-append}
+use Rattle.std.specs.List.{AllZip}
 use Rattle.std.proofs.lemmas.Bool.{cases_lt}
 use Rattle.csv.specs.Machine.{Read, next_record}
-use Rattle.csv.specs.Reading.{Reached}
+use Rattle.csv.specs.Reading.{Reached, default_config, strip_bom}
 use Rattle.csv.specs.declared.parser.Config.{Config}
 use Rattle.csv.specs.declared.parser.State.{State}
-use Rattle.lnt_records.specs.Table.{BeginsWith, Fields, RecordsOf}
+use Rattle.csv.specs.declared.parser.State.TheVariants as state
+use Rattle.lnt_csv.proofs.ReadingLaws.{same_read}
+use Rattle.lnt_csv.specs.Records.{BeginsWith, Fields, RecordsOf}
 
 -- two least numbers are equal
 pub same_least : (i j : ℕ) → (i < j → ⊥) → (j < i → ⊥) → i ≡ j
@@ -123,3 +126,36 @@ one_end bytes xs ys x y h k number =
         let rest = same_ends xs ys x y past tails (omega arith) in
         let found = rest.0 in
         (cc, rest.1)
+
+-- ---- record 0
+
+-- a state reached after several records was reached through the first of them
+first_reached : (bytes : List ℕ) (first : Fields) (more : List Fields) (after : State) (left : List ℕ)
+    → Reached default_config state.StartRecord bytes (first ∷ more) after left
+    → (after' : State) × (left' : List ℕ) × Reached default_config state.StartRecord bytes (first ∷ []) after' left'
+unfolding Reached
+first_reached bytes first more after left r = (r.0.1, r.0.2, (r.0, r.1, r.2, (refl, refl)))
+
+pub first_begins : (bytes : List ℕ) (first : Fields) (more : List Fields) → BeginsWith bytes (first ∷ more) → BeginsWith bytes (first ∷ [])
+first_begins bytes first more b = first_reached (strip_bom bytes) first more b.0 b.1 b.2
+
+pub records_begin : (bytes : List ℕ) (first : Fields) (more : List Fields) → RecordsOf bytes (first ∷ more) → BeginsWith bytes (first ∷ [])
+records_begin bytes first more r = first_reached (strip_bom bytes) first more r.0 r.1 r.2
+
+-- Bytes have at most one record 0.
+pub one_beginning : (bytes : List ℕ) (a b : Fields) → BeginsWith bytes (a ∷ []) → BeginsWith bytes (b ∷ []) → a ≡ b
+unfolding Reached
+one_beginning bytes a b x y =
+    let one = x.2 in
+    let two = y.2 in
+    let same : one.0 ≡ two.0 = same_read one.0 two.0 (sym one.1 ∙ two.1) in
+    one.2 ∙ ap (λ (p : Read). p.0) same ∙ sym two.2
+
+-- ---- one more record, and what is read from it
+
+pub zip_push : {A B : Type 0} (R : A → B → Type 0) (xs : List A) (ys : List B) (x : A) (y : B) → AllZip R xs ys → R x y
+    → AllZip R (xs ++ x ∷ []) (ys ++ y ∷ [])
+zip_push R [] [] x y z h = (h, tt)
+zip_push R [] (b ∷ ys) x y z h = absurd z
+zip_push R (a ∷ xs) [] x y z h = absurd z
+zip_push R (a ∷ xs) (b ∷ ys) x y z h = (z.0, zip_push R xs ys x y z.1 h)

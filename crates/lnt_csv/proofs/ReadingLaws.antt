@@ -1,6 +1,6 @@
 -- Records are read one by one from bytes in memory.
-use Rattle.std.proofs.Common.{Bor, ◌≡◌, ◌≢◌, ◌∙◌, ℕ, ◌<◌, ◌≤◌, Bool, true, false, List, [], ◌∷◌, ◌++◌, Option, Some, None, length}
-use Rattle.std.proofs.Common.{length-append, refl, sym, ap, subst, arith, inl, MatchBool, MatchOption, ◌==◌, if◌then◌else◌}
+use Rattle.std.proofs.Common.{Bor, ◌≡◌, ◌∙◌, ℕ, ◌<◌, ◌≤◌, Bool, true, false, List, [], ◌∷◌, ◌++◌, Option, Some, None, length}
+use Rattle.std.proofs.Common.{length-append, refl, sym, ap, subst, arith, inl, MatchBool, ◌==◌, if◌then◌else◌}
 use Rattle.csv.specs.Machine.{Read, after_end, ends_at_end, ends_with, field_after, fields_after, in_field, is_end, next_record}
 use Rattle.csv.specs.Machine.{start_field, start_record, step}
 use Rattle.csv.specs.Reading.{NextIs, Reached, ReadRecord, default_config, is_bom, is_flexible, pending_of, reader_state, strip_bom}
@@ -11,8 +11,8 @@ use Rattle.csv.specs.declared.parser.State.{State}
 use Rattle.csv.specs.declared.parser.State.TheVariants as st
 use Rattle.csv.specs.declared.parser.Terminator.TheVariants as term
 use Rattle.csv.proofs.ReadFacts.{rows-end, rows-more}
-use Rattle.lnt_records.specs.Reading.{BytesReader, HasRead, bytes_left, known_length}
-use Rattle.lnt_records.specs.Table.{BeginsWith, Fields, RecordsOf}
+use Rattle.lnt_csv.specs.Reading.{BytesReader, HasRead, bytes_left, known_length}
+use Rattle.lnt_csv.specs.Records.{BeginsWith, Fields, RecordsOf}
 
 -- ---- a record takes at least one byte
 
@@ -164,15 +164,6 @@ bom_stripped (a ∷ b ∷ c ∷ rest) = by (is_bom a b c)
 pub begins : (reader : BytesReader) (bytes : List ℕ) (records : List Fields) → HasRead reader bytes records → BeginsWith bytes records
 begins reader bytes records h = (reader_state reader, h.rest, h.reached)
 
--- the same bytes have the same first record
-pub first_same : (bytes : List ℕ) (a b : Fields) → BeginsWith bytes (a ∷ []) → BeginsWith bytes (b ∷ []) → a ≡ b
-unfolding Reached
-first_same bytes a b x y =
-    let one = x.2 in
-    let two = y.2 in
-    let same : one.0 ≡ two.0 = same_read one.0 two.0 (sym one.1 ∙ two.1) in
-    one.2 ∙ ap (λ (p : Read). p.0) same ∙ sym two.2
-
 pub no_record : (bytes : List ℕ) (fields : Fields) → RecordsOf bytes [] → BeginsWith bytes (fields ∷ []) → ⊥
 unfolding Reached
 no_record bytes fields none x =
@@ -181,12 +172,3 @@ no_record bytes fields none x =
     let last : next_record default_config st.StartRecord [] [] (strip_bom bytes) ≡ None = rw (reached.0, reached.1) none.3 in
     let some = first.1 in
     cc (last, some)
-
--- the version whose columns record 0 names, if it is a header
-pub header_found : {V : Type 0} (names : V → Fields) (found : Option V) (reader : BytesReader) (bytes : List ℕ) (fields : Fields)
-    → HasRead reader bytes (fields ∷ []) → MatchOption found ((v : V) → fields ≢ names v) (λ v. fields ≡ names v)
-    → MatchOption found ((v : V) → BeginsWith bytes (names v ∷ []) → ⊥) (λ v. BeginsWith bytes (names v ∷ []))
-header_found names None reader bytes fields h other =
-    λ v x. other v (first_same bytes fields (names v) (begins reader bytes (fields ∷ []) h) x)
-header_found names (Some v) reader bytes fields h same =
-    subst (λ (first : Fields). BeginsWith bytes (first ∷ [])) same (begins reader bytes (fields ∷ []) h)

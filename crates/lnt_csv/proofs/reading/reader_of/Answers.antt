@@ -1,7 +1,7 @@
 use Rattle.std.proofs.Common.{◌∙◌, refl, sym, inr, arith}
 use Rattle.csv.specs.Reading.{Reached, strip_bom}
-use Rattle.lnt_records.proofs.ReadingLaws.{bom_stripped}
-use Rattle.lnt_records.proofs.reading.reader_of.Goals as goal
+use Rattle.lnt_csv.proofs.ReadingLaws.{bom_stripped}
+use Rattle.lnt_csv.proofs.reading.reader_of.Goals as goal
 
 pub returns : goal.returns
 unfolding Reached

@@ -1,7 +1,7 @@
 use Rattle.std.proofs.Common.{◌∙◌, sym}
 use Rattle.csv.specs.Records.{fields_of}
-use Rattle.lnt_records.proofs.ColumnLemmas.{field_apart, field_same}
-use Rattle.lnt_records.proofs.column.has_fields.Goals as goal
+use Rattle.lnt_csv.proofs.FieldLemmas.{field_apart, field_same}
+use Rattle.lnt_csv.proofs.fields.has_fields.Goals as goal
 
 pub returns-then-ne : goal.returns-then-ne
 returns-then-ne c =

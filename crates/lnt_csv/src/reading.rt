@@ -1,8 +1,8 @@
-//! Reads the records of a table one by one.
+//! Reads records one by one.
 ghost use Rattle.std.specs.Prelude.{◌≡◌, ◌<◌, ℕ, true, List, [], ◌∷◌, ◌++◌, IfOk, MatchBool};
 ghost use Rattle.csv.specs.Records.{fields_of};
-ghost use Rattle.lnt_records.specs.Reading.{HasRead, bytes_left, known_length};
-ghost use Rattle.lnt_records.specs.Table.{Fields, RecordsOf};
+ghost use Rattle.lnt_csv.specs.Reading.{HasRead, bytes_left, known_length};
+ghost use Rattle.lnt_csv.specs.Records.{Fields, RecordsOf};
 
 use csv::{ByteRecord, Reader, ReaderBuilder};
 use std::alloc::{AllocError, Global};
