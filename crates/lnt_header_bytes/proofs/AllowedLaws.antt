@@ -23,11 +23,11 @@ spelled_value format order (Block2 t) x p = p.first.fits
 spelled_value format order (Block4 t) x p = p.first.fits
 spelled_value format order v x p = tt
 
-record AreValuesOf (pairs : List Pair) (values : List FormValue) : Type 0 where
-  forms : map form_of values ≡ map (λ pair. pair.form) pairs
-  spelled : AllByRecursion HasSpelling values
+pub record AreValuesOf (pairs : List Pair) (values : List FormValue) : Type 0 where
+  pub forms : map form_of values ≡ map (λ pair. pair.form) pairs
+  pub spelled : AllByRecursion HasSpelling values
 
-spelled_values : (format : Format) (order : Order) (pairs : List Pair) (values : List FormValue) (x : List ℕ)
+pub spelled_values : (format : Format) (order : Order) (pairs : List Pair) (values : List FormValue) (x : List ℕ)
     → ValuesBytes format order pairs values x → AreValuesOf pairs values
 spelled_values format order [] [] x p = record { forms = refl; spelled = tt }
 spelled_values format order [] (v ∷ values) x p = absurd p

@@ -1,7 +1,6 @@
 -- Tables whose entries are given as bytes, and headers of such tables: what they stand for. That the bytes encode the
 -- entries is `EntryBytes`; the functions here say which entries these are, as a reader finds them.
-use Rattle.std.specs.Prelude.{List, map, ◌≡◌, ℕ, zero, suc, ◌+◌, [], ◌∷◌, drop}
-use Rattle.lnt_wire.specs.declared.form.Form.{Form}
+use Rattle.std.specs.Prelude.{List, ◌≡◌, ℕ, zero, suc, ◌+◌, [], ◌∷◌, drop}
 use Rattle.lnt_wire.specs.declared.form.FormValue.{FormValue}
 use Rattle.lnt_header.specs.declared.header.Entry.{Entry}
 use Rattle.lnt_header.specs.declared.header.Pair.{Pair}

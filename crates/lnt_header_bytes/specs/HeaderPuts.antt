@@ -1,23 +1,17 @@
--- What is written of a header, and why it is not.
+-- What is written of a header.
 use Rattle.std.specs.Prelude.{◌≡◌, ℕ, List, [], ◌∷◌, ◌++◌, length}
-use Rattle.lnt_wire.specs.Reading.{At, Reads}
-use Rattle.lnt_wire.specs.Bytes.{Appends}
 use Rattle.lnt_wire.specs.FrameBytes.{version_five, frame_bytes, LengthFits}
 use Rattle.lnt_wire.specs.Numbers.{number_bytes, offset_size}
 use Rattle.lnt_wire.specs.declared.format.Format.{Format}
 use Rattle.lnt_wire.specs.declared.format.Order.{Order}
-use Rattle.lnt_wire.specs.declared.put.EncodeFault.{EncodeFault}
-use Rattle.lnt_wire.specs.declared.put.EncodeFault.TheVariants.{TooLarge}
 use Rattle.lnt_wire.specs.FormBytes.{FormBytes}
 use Rattle.lnt_header.specs.Conversion.{in_order}
 use Rattle.lnt_header.specs.HeaderRules.{header_of}
 use Rattle.lnt_header.specs.Parts.{HeaderParts}
 use Rattle.lnt_header.specs.declared.numbers.NumberParts.{NumberParts}
-use Rattle.lnt_header_bytes.specs.Large.{HasLargeValue}
 use Rattle.lnt_header_bytes.specs.declared.encode.TableToPut.{TableToPut}
 use Rattle.lnt_header_bytes.specs.declared.encode.TableToPut.TheVariants.{Held, InPlace}
 use Rattle.lnt_header.specs.Joins.{Each}
-use Rattle.lnt_header_bytes.specs.TableBytes.{EntryBytes}
 use Rattle.lnt_header.specs.declared.header.Entry.{Entry}
 use Rattle.lnt_header.specs.declared.header.Pair.{Pair}
 
@@ -34,18 +28,6 @@ pub record AddsAround (order : Order) (format : Format) (size : ℕ) (fields pro
 -- the values of an entry, one after the other
 abbrev pub EntryParts : Format → Order → Entry → List ℕ → Type 0
 EntryParts format order entry bytes = Each (FormBytes format order) entry.values bytes
-
--- The read moved past the bytes of an entry, and the shortest spelling of its values in this format and order was added.
-pub record AddsEntry (from : Format) (pairs : List Pair) (format : Format) (order : Order) (old new : At)
-    (text_old text_new : List ℕ) : Type 0 where
-  pub entry : Entry
-  pub read : Reads (EntryBytes from old.order pairs) entry old new
-  pub put : Appends (EntryParts format order) entry text_old text_new
-
--- The fault is TooLarge only where an entry that begins the bytes has an offset that this format can't say.
-pub record RefusesEntry (from : Format) (pairs : List Pair) (format : Format) (at : At) (fault : EncodeFault) : Type 0 where
-  pub large : fault ≡ TooLarge → (entry : Entry) (x more : List ℕ) → EntryBytes from at.order pairs entry x → at.rest ≡ x ++ more
-      → HasLargeValue format entry.values
 
 -- the pairs and the entries of a table, wherever these are
 abbrev pub table_to_put : TableToPut → List Pair × List Entry

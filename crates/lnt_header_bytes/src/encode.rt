@@ -305,9 +305,9 @@ fn add_entries(
     Ok(())
 }
 
-// Adds the values of an entry.
+/// Adds the values of an entry.
 #[tactic(auto, using(lnt_header::proofs::PutLaws::each_begun))]
-fn add_values(
+pub(crate) fn add_values(
     out: &mut Vec<u8>,
     values: &[FormValue],
     format: Format,

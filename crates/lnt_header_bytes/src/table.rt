@@ -56,30 +56,24 @@ fn add_pair(cursor: &mut Cursor<'_>, pairs: &mut Vec<Pair>) -> Result<(), Fault>
     Ok(pairs.push(read_pair(cursor)?)?)
 }
 
-// Reads the values of an entry, one for each pair.
+/// Reads the values of an entry, one for each pair, in place of those that are in `values`.
 #[tactic(auto, using(crate::proofs::ValueLaws::read_values_lemmas, crate::proofs::TableReaders::refuses_values_at))]
-fn read_values(
+pub(crate) fn read_values(
     alloc: Global,
     cursor: &mut Cursor<'_>,
     format: Format,
     pairs: &[Pair],
-) -> Result<Vec<FormValue>, Fault>
-    ensures ok { IfOk result (λ values. Reads (ValuesBytes format cursor.old.order pairs.now) values.items cursor.old cursor.new) }
+    values: &mut Vec<FormValue>,
+) -> Result<(), Fault>
+    ensures ok { OnOk result (Reads (ValuesBytes format cursor.old.order pairs.now) values.new.items cursor.old cursor.new) }
     ensures err { IfErr result (λ fault. RefusesOr (IsEntryFault format cursor.old.order pairs.now)
         (ValuesBytes format cursor.old.order pairs.now) cursor.old fault) }
 {
-    let mut values = Vec::new(alloc);
+    values.clear();
     for pair in pairs {
-        let value = match cursor.form(alloc, pair.form, format) {
-            Ok(value) => value,
-            Err(fault) => {
-                drop(values);
-                return Err(fault);
-            }
-        };
-        values.push(value)?;
+        values.push(cursor.form(alloc, pair.form, format)?)?;
     }
-    Ok(values)
+    Ok(())
 }
 
 /// Reads `count` entries, each of which has a value for each pair.
@@ -122,7 +116,8 @@ fn read_entry(
     ensures err { IfErr result (λ fault. RefusesOr (IsEntryFault format cursor.old.order pairs.now)
         (EntryBytes format cursor.old.order pairs.now) cursor.old fault) }
 {
-    let values = read_values(alloc, cursor, format, pairs)?;
+    let mut values = Vec::new(alloc);
+    read_values(alloc, cursor, format, pairs, &mut values)?;
     Ok(entries.push(Entry {
         values: Items::new(values),
     })?)
