@@ -1,7 +1,5 @@
 -- What the steps of decoding a header find.
-use Rattle.std.proofs.Common.{◌≡◌, ℕ, suc, ◌<◌, List, [], ◌∷◌, ◌++◌, get_or, refl, sym, ap, subst, ◌∙◌, append_assoc, arith, FitsSigned}
-use Rattle.std.specs.Int.{w8, cast_unsigned, cast_signed}
-use Rattle.std.proofs.lemmas.Int.{of_z-to_z, ints}
+use Rattle.std.proofs.Common.{◌≡◌, ℕ, suc, ◌<◌, List, [], ◌∷◌, ◌++◌, get_or, refl, sym, ap, subst, ◌∙◌, append_assoc}
 use Rattle.std.specs.List.{AllByRecursion}
 use Rattle.lnt_wire.specs.Reading.{At, Reads}
 use Rattle.lnt_wire.specs.declared.format.Format.{Format}
@@ -13,23 +11,20 @@ use Rattle.lnt_header.specs.HeaderRules.{header_of, IsAddressSize, AreHeaderNumb
 
 -- ---- bytes
 
-are_bytes : (bytes : List ℕ) → ((i : ℕ) → get_or bytes i 0 < 256) → AllByRecursion (λ byte. byte < 256) bytes
+pub are_bytes : (bytes : List ℕ) → ((i : ℕ) → get_or bytes i 0 < 256) → AllByRecursion (λ byte. byte < 256) bytes
 are_bytes [] h = tt
 are_bytes (b ∷ bytes) h = (h 0, are_bytes bytes (λ i. h (suc i)))
 
-prefix_bytes : (x y : List ℕ) → AllByRecursion (λ byte. byte < 256) (x ++ y) → AllByRecursion (λ byte. byte < 256) x
+pub prefix_bytes : (x y : List ℕ) → AllByRecursion (λ byte. byte < 256) (x ++ y) → AllByRecursion (λ byte. byte < 256) x
 prefix_bytes [] y h = tt
 prefix_bytes (b ∷ x) y h = (h.0, prefix_bytes x y h.1)
-
-fits_byte : (n : ℕ) → n < 256 → FitsSigned w8 (cast_signed w8 n)
-fits_byte n small = omega (arith, ints)
 
 -- ---- the fields that header_length counts
 
 pub joined_fields : (a b c d e : List ℕ) → (a ++ (b ++ (c ++ d))) ++ e ≡ (a ++ b) ++ c ++ d ++ e
 joined_fields a b c d e = simp append_assoc
 
-to_right : (a b c d : List ℕ) → a ++ b ++ c ++ d ≡ a ++ (b ++ (c ++ d))
+pub to_right : (a b c d : List ℕ) → a ++ b ++ c ++ d ≡ a ++ (b ++ (c ++ d))
 to_right a b c d = simp append_assoc
 
 pub fields_found : (format : Format) (order : Order) (size : ℕ) (bytes : List ℕ) (s : Singles) (lengths : List ℕ) (d f : Table)
@@ -43,17 +38,10 @@ fields_found format order size bytes s lengths d f old new is small rest_is same
     let p2 = p1.second in
     let p3 = p2.second in
     let n = numbers_with order size s lengths in
-    let read : old.rest ≡ p1.prefix ++ (p1.back ++ new.rest) =
-    r.whole ∙ ap (λ (z : List ℕ). z ++ new.rest) p1.joined ∙ append_assoc p1.prefix p1.back new.rest in
-    let byte : get_or bytes 3 0 ≡ s.line_base =
-    ap (λ (z : List ℕ). get_or z 3 0) (sym rest_is ∙ read ∙ ap (λ (z : List ℕ). z ++ (p1.back ++ new.rest)) p1.first.spelled) in
-    let low : s.line_base < 256 = subst (λ (n : ℕ). n < 256) byte (small 3) in
-    let line_base : n.line_base ≡ cast_signed w8 s.line_base = ap (cast_signed w8) (of_z-to_z w8 s.line_base low) in
-    let line_base_byte : cast_unsigned w8 n.line_base ≡ s.line_base = ap (cast_unsigned w8) line_base ∙ of_z-to_z w8 s.line_base low in
     let singles : single_bytes n ≡ p1.prefix ++ p2.prefix =
     let six = p1.first.spelled in
     let rest = p2.first.2 in
-    cc (six, rest, line_base_byte) in
+    cc (six, rest) in
     let joined : bytes ≡ single_bytes n ++ p3.prefix ++ p3.back ++ new.rest =
     sym rest_is ∙ r.whole ∙ ap (λ (z : List ℕ). z ++ new.rest)
     (p1.joined ∙ ap (λ (z : List ℕ). p1.prefix ++ z) (p2.joined ∙ ap (λ (z : List ℕ). p2.prefix ++ z) p3.joined))
@@ -65,7 +53,7 @@ fields_found format order size bytes s lengths d f old new is small rest_is same
     subst (λ (z : List ℕ). AllByRecursion (λ byte. byte < 256) z) nested (are_bytes bytes small) in
     let numbers : AreHeaderNumbers n = record {
       address_size = is;
-      line_base = subst (FitsSigned w8) (sym line_base) (fits_byte s.line_base low);
+      line_base = p1.first.line_base;
       bytes = prefix_bytes (single_bytes n) (p3.prefix ++ (p3.back ++ new.rest)) all;
       max_ops = p1.first.max_ops;
       line_range = p1.first.line_range;

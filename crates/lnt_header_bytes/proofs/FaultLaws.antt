@@ -5,7 +5,7 @@ use Rattle.lnt_wire.specs.Reading.{At, Reads, RefusesField, Refuses}
 use Rattle.lnt_wire.specs.declared.fault.Fault.{Fault}
 use Rattle.lnt_wire.specs.declared.fault.Reason.{Reason}
 use Rattle.lnt_wire.proofs.FieldFaultLaws.{IsOneFieldFault}
-use Rattle.lnt_header.proofs.FirstFaultLaws.{AreOne, IsOneFault}
+use Rattle.lnt_header.proofs.FirstFaultLaws.{IsOneFault}
 use Rattle.std.proofs.lemmas.Grind.{common_steps}
 
 -- a field
@@ -43,8 +43,3 @@ module _ {X : Type 0} {Spells : X → List ℕ → Type 0} {IsSo : Reason → Li
   pub so_end : (reason : Reason) → fault.place ≡ old.place + length old.rest → fault.reason ≡ reason → IsSo reason old.rest []
       → Refuses IsSo Spells old fault
   so_end reason place same so = so_between reason old.rest [] (sym (append-nil old.rest)) place same so
-
--- Faults that a function of the bytes tells are one.
-pub one_told : (told : List ℕ → Reason × List ℕ) (IsSo : Reason → List ℕ → List ℕ → Type 0)
-    → ((reason : Reason) (before left : List ℕ) → IsSo reason before left → told (before ++ left) ≡ (reason, before)) → AreOne IsSo
-one_told told IsSo tells reason other before before' left left' h k e = grind (arith, common_steps)

@@ -1,7 +1,6 @@
 -- Headers in the frames that they stand in: what was found, and why none is there.
 use Rattle.std.proofs.Common.{◌≡◌, ℕ, ◌+◌, ◌^◌, ◌<◌, ◌≤◌, List, [], ◌∷◌, ◌++◌, length, refl, sym, ap, subst, ◌∙◌, append_assoc, arith}
 use Rattle.std.proofs.lemmas.List.{append_cancel_left, append-nil, length-append}
-use Rattle.std.specs.Int.{w8, cast_unsigned}
 use Rattle.lnt_wire.specs.Reading.{At, Reads, Refuses}
 use Rattle.lnt_wire.specs.Bytes.{NoneSpelled}
 use Rattle.lnt_wire.specs.FrameBytes.{version_five, frame_bytes, initial_length, LengthFits}
@@ -150,12 +149,12 @@ pub counted_before : (order : Order) (format : Format) (size zero_size : ℕ) (c
     → Reads (StartBytes format order) (size, (zero_size, counted)) old new → length counted ≤ new.place
 counted_before order format size zero_size counted old new r = grind (arith, common_steps, length-append)
 
-abbrev singles_of : HeaderParts → Singles
+abbrev pub singles_of : HeaderParts → Singles
 singles_of h = record {
   minimum_instruction_length = h.numbers.minimum_instruction_length;
   max_ops = h.numbers.max_ops;
   default_is_stmt = h.numbers.default_is_stmt;
-  line_base = cast_unsigned w8 h.numbers.line_base;
+  line_base = h.numbers.line_base;
   line_range = h.numbers.line_range;
   opcode_base = h.numbers.opcode_base;
 }
@@ -176,6 +175,8 @@ no_fields order format body size counted program offset place unit at none c =
     (joins (six_bytes h.numbers) (h.numbers.standard_lengths ++ (p.directories ++ p.files))
     (record {
       spelled = refl;
+      says = tt;
+      line_base = p.numbers.line_base;
       max_ops = p.numbers.max_ops;
       line_range = p.numbers.line_range;
       opcode_base = omega (arith, p.numbers.opcode_base);

@@ -1,6 +1,6 @@
 -- The fields that header_length counts: what is read and refused, and that their first fault is one. Crates above cite these.
-use Rattle.std.proofs.Common.{◌≡◌, ◌≢◌, ℕ, zero, suc, ◌+◌, ◌-◌, ◌<◌, ◌≤◌, List, [], ◌∷◌, ◌++◌, length, take, drop, get_or, refl, sym, ap}
-use Rattle.std.proofs.Common.{◌∙◌, arith, inl, inr}
+use Rattle.std.proofs.Common.{◌≡◌, ◌≢◌, ℕ, suc, ◌+◌, ◌-◌, ◌<◌, ◌≤◌, List, [], ◌∷◌, ◌++◌, length, take, drop, get_or, refl, sym, ap}
+use Rattle.std.proofs.Common.{◌∙◌, arith, inl, inr, true}
 use Rattle.std.proofs.lemmas.Bool.{cases_order}
 use Rattle.std.proofs.Math.Seq.{get_or-append_seam}
 use Rattle.std.proofs.lemmas.List.{length-append, append-nil, length-take-le, get_or-take, get_or_append_left, drop_more, take-append-drop}
@@ -8,7 +8,7 @@ use Rattle.lnt_wire.specs.Reading.{At, Reads, Refuses}
 use Rattle.lnt_wire.specs.Bytes.{NoneSpelled, IsCode, TakenBytes}
 use Rattle.lnt_wire.specs.declared.fault.Fault.{Fault}
 use Rattle.lnt_wire.specs.declared.fault.Reason.{Reason}
-use Rattle.lnt_wire.specs.declared.fault.Reason.TheVariants.{Truncated, MaxOpsZero, LineRangeZero, OpcodeBaseZero, StandardLength}
+use Rattle.lnt_wire.specs.declared.fault.Reason.TheVariants.{Truncated, StandardLength}
 use Rattle.lnt_wire.specs.declared.format.Format.{Format}
 use Rattle.lnt_wire.specs.declared.format.Order.{Order}
 use Rattle.lnt_wire.proofs.LengthLaws.{same_prefix, same_rest}
@@ -23,118 +23,11 @@ use Rattle.lnt_header_bytes.specs.TableFaults.{IsTableFault}
 use Rattle.lnt_header_bytes.specs.FieldsBytes.{FieldsBytes, AfterSingles, AfterLengths, TwoTables}
 use Rattle.lnt_header_bytes.specs.HeaderFaults.{TwoTablesFault, AfterSinglesFault, IsHeaderFault, SinglesBytes, IsSinglesFault}
 use Rattle.lnt_header_bytes.specs.HeaderFaults.{LengthsBytes, IsLengthsFault, Singles}
-use Rattle.lnt_header_bytes.proofs.FaultLaws.{one_told, so_end, so_past}
+use Rattle.lnt_header_bytes.proofs.FaultLaws.{so_end, so_past}
+use Rattle.lnt_header_bytes.proofs.SoundLemmas.{singles_code, singles_fault}
 use Rattle.lnt_header_bytes.proofs.TableLaws.{same_table}
 use Rattle.lnt_header_bytes.proofs.TableReaders.{table_fault}
 use Rattle.std.proofs.lemmas.Grind.{common_steps}
-
--- ---- the six fields of one byte
-
-singles_none : (reason : Reason) (before left : List ℕ) → IsSinglesFault reason before left → NoneSpelled SinglesBytes (before ++ left)
-singles_none Truncated before left h s x more p e =
-    omega (arith, ap length e, length-append before left, length-append x more, ap length h.ends, h.few, ap length p.spelled)
-singles_none MaxOpsZero before left h s x more p e =
-    let all = ap (λ (z : List ℕ). z ++ more) (sym p.spelled) ∙ e ∙ ap (λ (z : List ℕ). z ++ left) h.2 ∙ ap (λ (z : List ℕ). h.0 ∷ z) h.3 in
-    omega (arith, p.max_ops, ap (λ (z : List ℕ). get_or z 1 0) all)
-singles_none LineRangeZero before left h s x more p e =
-    let all = ap (λ (z : List ℕ). z ++ more) (sym p.spelled) ∙ e ∙ ap (λ (z : List ℕ). z ++ left) h.6
-    ∙ ap (λ (z : List ℕ). h.0 ∷ h.1 ∷ h.2 ∷ h.3 ∷ z) h.7 in
-    omega (arith, p.line_range, ap (λ (z : List ℕ). get_or z 4 0) all)
-singles_none OpcodeBaseZero before left h s x more p e =
-    let all = ap (λ (z : List ℕ). z ++ more) (sym p.spelled) ∙ e ∙ ap (λ (z : List ℕ). z ++ left) h.8
-    ∙ ap (λ (z : List ℕ). h.0 ∷ h.1 ∷ h.2 ∷ h.3 ∷ h.4 ∷ z) h.9 in
-    omega (arith, p.opcode_base, ap (λ (z : List ℕ). get_or z 5 0) all)
-singles_none reason before left h s x more p e = absurd h
-
--- what is wrong with bytes that don't begin with the six fields, and the bytes before it
-abbrev singles_told : List ℕ → Reason × List ℕ
-singles_told (a ∷ zero ∷ more) = (MaxOpsZero, a ∷ [])
-singles_told (a ∷ suc b ∷ c ∷ d ∷ zero ∷ more) = (LineRangeZero, a ∷ suc b ∷ c ∷ d ∷ [])
-singles_told (a ∷ suc b ∷ c ∷ d ∷ suc f ∷ zero ∷ more) = (OpcodeBaseZero, a ∷ suc b ∷ c ∷ d ∷ suc f ∷ [])
-singles_told bytes = (Truncated, bytes)
-
-told_cut : (bytes : List ℕ) → length bytes < 6 → (1 < length bytes → 0 < get_or bytes 1 0) → (4 < length bytes → 0 < get_or bytes 4 0)
-    → singles_told bytes ≡ (Truncated, bytes)
-told_cut [] few max_ops line_range = refl
-told_cut (a ∷ []) few max_ops line_range = refl
-told_cut (a ∷ zero ∷ more) few max_ops line_range = absurd (omega (arith, max_ops (omega arith)))
-told_cut (a ∷ suc b ∷ []) few max_ops line_range = refl
-told_cut (a ∷ suc b ∷ c ∷ []) few max_ops line_range = refl
-told_cut (a ∷ suc b ∷ c ∷ d ∷ []) few max_ops line_range = refl
-told_cut (a ∷ suc b ∷ c ∷ d ∷ zero ∷ more) few max_ops line_range = absurd (omega (arith, line_range (omega arith)))
-told_cut (a ∷ suc b ∷ c ∷ d ∷ suc f ∷ []) few max_ops line_range = refl
-told_cut (a ∷ suc b ∷ c ∷ d ∷ suc f ∷ g ∷ more) few max_ops line_range = absurd (omega arith)
-
-told_line_range : (a b c d : ℕ) (more : List ℕ) → 0 < b → singles_told (a ∷ b ∷ c ∷ d ∷ 0 ∷ more) ≡ (LineRangeZero, a ∷ b ∷ c ∷ d ∷ [])
-told_line_range a zero c d more some = absurd (omega arith)
-told_line_range a (suc b) c d more some = refl
-
-told_opcode_base : (a b c d f : ℕ) (more : List ℕ) → 0 < b → 0 < f
-    → singles_told (a ∷ b ∷ c ∷ d ∷ f ∷ 0 ∷ more) ≡ (OpcodeBaseZero, a ∷ b ∷ c ∷ d ∷ f ∷ [])
-told_opcode_base a zero c d f more some last = absurd (omega arith)
-told_opcode_base a (suc b) c d zero more some last = absurd (omega arith)
-told_opcode_base a (suc b) c d (suc f) more some last = refl
-
-tells_singles : (reason : Reason) (before left : List ℕ) → IsSinglesFault reason before left
-    → singles_told (before ++ left) ≡ (reason, before)
-tells_singles Truncated before left h = ap (λ (z : List ℕ). singles_told z) (ap (λ (z : List ℕ). before ++ z) h.ends ∙ append-nil before)
-    ∙ told_cut before h.few h.max_ops h.line_range
-tells_singles MaxOpsZero before left h = rw (h.2, h.3) refl
-tells_singles LineRangeZero before left h = rw (h.6, h.7) (told_line_range h.0 h.1 h.2 h.3 h.4 h.5)
-tells_singles OpcodeBaseZero before left h = rw (h.8, h.9) (told_opcode_base h.0 h.1 h.2 h.3 h.4 h.5 h.6 h.7)
-tells_singles reason before left h = absurd h
-
-singles_fault : IsOneFault SinglesBytes IsSinglesFault
-singles_fault = record { none = singles_none; one = one_told (λ bytes. singles_told bytes) IsSinglesFault tells_singles }
-
-so_max_ops : (bytes : List ℕ) → 1 < length bytes → get_or bytes 1 0 ≡ 0 → IsSinglesFault MaxOpsZero (take 1 bytes) (drop 1 bytes)
-so_max_ops [] lt e = absurd (omega arith)
-so_max_ops (a ∷ []) lt e = absurd (omega arith)
-so_max_ops (a ∷ b ∷ more) lt e = (a, more, refl, ap (λ (k : ℕ). k ∷ more) e)
-
-so_line_range : (bytes : List ℕ) → 4 < length bytes → get_or bytes 1 0 ≢ 0 → get_or bytes 4 0 ≡ 0
-    → IsSinglesFault LineRangeZero (take 4 bytes) (drop 4 bytes)
-so_line_range (a ∷ b ∷ c ∷ d ∷ f ∷ more) lt n e = (a, b, c, d, more, omega (arith, n), refl, ap (λ (k : ℕ). k ∷ more) e)
-so_line_range bytes lt n e = absurd (omega arith)
-
-so_opcode_base : (bytes : List ℕ) → 5 < length bytes → get_or bytes 1 0 ≢ 0 → get_or bytes 4 0 ≢ 0 → get_or bytes 5 0 ≡ 0
-    → IsSinglesFault OpcodeBaseZero (take 5 bytes) (drop 5 bytes)
-so_opcode_base (a ∷ b ∷ c ∷ d ∷ f ∷ g ∷ more) lt n m e =
-    (a, b, c, d, f, more, omega (arith, n), omega (arith, m), refl, ap (λ (k : ℕ). k ∷ more) e)
-so_opcode_base bytes lt n m e = absurd (omega arith)
-
-pub max_ops_zero : (old : At) (fault : Fault) → 1 < length old.rest → get_or old.rest 1 0 ≡ 0 → fault.place ≡ old.place + 1
-    → fault.reason ≡ MaxOpsZero → Refuses IsSinglesFault SinglesBytes old fault
-max_ops_zero old fault lt e place reason =
-    so_past singles_fault old fault MaxOpsZero 1 (omega arith) place reason (so_max_ops old.rest lt e)
-
-pub line_range_zero : (old : At) (fault : Fault) → 4 < length old.rest → get_or old.rest 1 0 ≢ 0 → get_or old.rest 4 0 ≡ 0
-    → fault.place ≡ old.place + 4 → fault.reason ≡ LineRangeZero → Refuses IsSinglesFault SinglesBytes old fault
-line_range_zero old fault lt n e place reason =
-    so_past singles_fault old fault LineRangeZero 4 (omega arith) place reason (so_line_range old.rest lt n e)
-
-pub opcode_base_zero : (old : At) (fault : Fault) → 5 < length old.rest → get_or old.rest 1 0 ≢ 0 → get_or old.rest 4 0 ≢ 0
-    → get_or old.rest 5 0 ≡ 0 → fault.place ≡ old.place + 5 → fault.reason ≡ OpcodeBaseZero → Refuses IsSinglesFault SinglesBytes old fault
-opcode_base_zero old fault lt n m e place reason =
-    so_past singles_fault old fault OpcodeBaseZero 5 (omega arith) place reason (so_opcode_base old.rest lt n m e)
-
-pub cut_singles : (old : At) (fault : Fault) → length old.rest < 6 → (1 < length old.rest → get_or old.rest 1 0 ≢ 0)
-    → (4 < length old.rest → get_or old.rest 4 0 ≢ 0) → fault.place ≡ old.place + length old.rest
-    → fault.reason ≡ Truncated → Refuses IsSinglesFault SinglesBytes old fault
-cut_singles old fault lt max_ops line_range place reason = grind (arith, common_steps, so_end, singles_fault)
-
-six_of : (bytes : List ℕ) → length bytes ≡ 6 → bytes ≡ get_or bytes 0 0 ∷ get_or bytes 1 0 ∷ get_or bytes 2 0 ∷ get_or bytes 3 0 ∷ get_or
-    bytes 4 0 ∷ get_or bytes 5 0 ∷ []
-six_of (a ∷ b ∷ c ∷ d ∷ f ∷ g ∷ []) e = refl
-six_of bytes e = absurd (omega arith)
-
-pub reads_singles : (old new : At) (six : List ℕ) (s : Singles) → Reads (TakenBytes 6) six old new
-    → s.minimum_instruction_length ≡ get_or six 0 0 → s.max_ops ≡ get_or six 1 0 → s.default_is_stmt ≡ get_or six 2 0
-    → s.line_base ≡ get_or six 3 0 → s.line_range ≡ get_or six 4 0 → s.opcode_base ≡ get_or six 5 0
-    → (1 < length old.rest → get_or old.rest 1 0 ≢ 0) → (4 < length old.rest → get_or old.rest 4 0 ≢ 0)
-    → (5 < length old.rest → get_or old.rest 5 0 ≢ 0) → Reads SinglesBytes s old new
-reads_singles old new six s r a b c d f g max_ops line_range opcode_base =
-    grind (arith, common_steps, length-append, get_or_append_left, six_of)
 
 -- ---- the standard opcode lengths
 
@@ -218,7 +111,7 @@ lengths_one opcode_base (StandardLength opcode given) (StandardLength opcode' gi
 lengths_one opcode_base (StandardLength opcode given) other before before' left left' h k e = absurd k
 lengths_one opcode_base reason other before before' left left' h k e = absurd h
 
-lengths_fault : (opcode_base : ℕ) → IsOneFault (LengthsBytes opcode_base) (IsLengthsFault opcode_base)
+pub lengths_fault : (opcode_base : ℕ) → IsOneFault (LengthsBytes opcode_base) (IsLengthsFault opcode_base)
 lengths_fault opcode_base = record { none = lengths_none opcode_base; one = lengths_one opcode_base }
 
 pub refuses_length : (opcode_base i opcode given : ℕ) (old : At) (fault : Fault) → Agrees i old.rest → i + 1 < opcode_base → i < last_known
@@ -262,10 +155,7 @@ reads_lengths opcode_base n given_lengths old new some r h all =
 
 -- ---- the fields of a header
 
-singles_code : IsCode SinglesBytes
-singles_code = grind (arith, common_steps, same_prefix)
-
-lengths_code : (opcode_base : ℕ) → IsCode (LengthsBytes opcode_base)
+pub lengths_code : (opcode_base : ℕ) → IsCode (LengthsBytes opcode_base)
 lengths_code opcode_base = grind (arith, common_steps, same_prefix)
 
 table_code : (format : Format) (order : Order) → IsCode (TableOf format order)
@@ -288,23 +178,24 @@ after_singles_fault format order s =
 
 pub fields_fault : (format : Format) (order : Order) → IsOneFault (FieldsBytes format order) (IsHeaderFault format order)
 fields_fault format order =
-    first_of SinglesBytes IsSinglesFault (AfterSinglesFault format order) singles_code (AfterSingles format order) singles_fault
-    (after_singles_fault format order)
+    first_of (SinglesBytes true) (IsSinglesFault true) (AfterSinglesFault format order) (singles_code true) (AfterSingles format order)
+    (singles_fault true) (after_singles_fault format order)
 
-pub refuses_singles : (format : Format) (old : At) (fault : Fault) → Refuses IsSinglesFault SinglesBytes old fault
+pub refuses_singles : (format : Format) (old : At) (fault : Fault) → Refuses (IsSinglesFault true) (SinglesBytes true) old fault
     → Refuses (IsHeaderFault format old.order) (FieldsBytes format old.order) old fault
-refuses_singles format old fault r = first_refused SinglesBytes (AfterSingles format old.order) old fault r
+refuses_singles format old fault r = first_refused (SinglesBytes true) (AfterSingles format old.order) old fault r
 
-module _ (format : Format) (s : Singles) (old m1 : At) (r : Reads SinglesBytes s old m1) where
+module _ (format : Format) (s : Singles) (old m1 : At) (r : Reads (SinglesBytes true) s old m1) where
   after_singles : (fault : Fault) → Refuses (AfterSinglesFault format m1.order s) (AfterSingles format m1.order s) m1 fault
       → Refuses (IsHeaderFault format old.order) (FieldsBytes format old.order) old fault
-  after_singles fault t = second_refused (AfterSinglesFault format) SinglesBytes (AfterSingles format) s old m1 fault singles_code r t
+  after_singles fault t =
+      second_refused (AfterSinglesFault format) (SinglesBytes true) (AfterSingles format) s old m1 fault (singles_code true) r t
 
   pub refuses_lengths : (fault : Fault) → Refuses (IsLengthsFault s.opcode_base) (LengthsBytes s.opcode_base) m1 fault
       → Refuses (IsHeaderFault format old.order) (FieldsBytes format old.order) old fault
   refuses_lengths fault t = after_singles fault (first_refused (LengthsBytes s.opcode_base) (AfterLengths format m1.order) m1 fault t)
 
-module _ (format : Format) (s : Singles) (ls : List ℕ) (old m1 m2 : At) (r : Reads SinglesBytes s old m1)
+module _ (format : Format) (s : Singles) (ls : List ℕ) (old m1 m2 : At) (r : Reads (SinglesBytes true) s old m1)
     (t : Reads (LengthsBytes s.opcode_base) ls m1 m2) where
   after_lengths : (fault : Fault) → Refuses (TwoTablesFault format m2.order) (TwoTables format m2.order) m2 fault
       → Refuses (IsHeaderFault format old.order) (FieldsBytes format old.order) old fault
@@ -328,13 +219,10 @@ module _ (format : Format) (s : Singles) (ls : List ℕ) (old m1 m2 : At) (r : R
   reads_fields directories files m3 new u v =
       let tables = reads_both (TableOf format m2.order) (λ order _. TableOf format order) directories files m2 m3 new u v in
       let past = reads_both (LengthsBytes s.opcode_base) (AfterLengths format) ls (directories, files) m1 m2 new t tables in
-      reads_both SinglesBytes (AfterSingles format) s (ls, (directories, files)) old m1 new r past
+      reads_both (SinglesBytes true) (AfterSingles format) s (ls, (directories, files)) old m1 new r past
 
 -- The lemmas of `read_fields`.
 pub ruleset read_fields_lemmas = (refuses_singles, refuses_lengths, refuses_directories, refuses_files)
-
--- The lemmas of `read_singles`.
-pub ruleset read_singles_lemmas = (max_ops_zero, line_range_zero, opcode_base_zero, cut_singles, reads_singles)
 
 -- The lemmas of `read_lengths`.
 pub ruleset read_lengths_lemmas = (refuses_length, cut_lengths, reads_lengths)

@@ -13,7 +13,9 @@ pub mod MarkLemmas
 pub mod PassLemmas
 pub mod PassedLaws
 pub mod Places
+pub mod Prefixes
 pub mod ProgramLaws
+pub mod SoundLemmas
 pub mod SpelledHeaders
 pub mod StartReaders
 pub mod TableLaws

@@ -1,5 +1,7 @@
 -- The places of faults in a header, among the bytes of its unit.
-use Rattle.std.proofs.Common.{◌≡◌, ℕ, ◌<◌, List, [], ◌∷◌, ◌++◌, length, sym, ap, subst, ◌∙◌, append_assoc, arith, inl, inr, append-nil}
+use Rattle.std.proofs.Common.{◌≡◌, ℕ, ◌<◌, List, [], ◌∷◌, ◌++◌, length, sym, ap, subst, ◌∙◌, append_assoc, length-append, arith, inl, inr}
+use Rattle.std.proofs.Common.{append-nil, refl, true, Option, Some}
+use Rattle.std.specs.Int.{w8, cast_unsigned}
 use Rattle.lnt_header.specs.FieldFaults.{IsCutField}
 use Rattle.lnt_wire.specs.declared.format.Order.{Order}
 use Rattle.lnt_wire.specs.declared.fault.Reason.{Reason}
@@ -10,13 +12,15 @@ use Rattle.lnt_wire.specs.FrameBytes.{version_five}
 use Rattle.lnt_wire.specs.FrameFaults.{InFrame}
 use Rattle.lnt_wire.specs.Numbers.{number_bytes, offset_size}
 use Rattle.lnt_header_bytes.specs.HeaderFaults.{IsStartFault, TwoTablesFault, IsHeaderFault, SinglesBytes, IsSinglesFault, IsLengthsFault}
-use Rattle.lnt_header_bytes.specs.HeaderFaults.{Singles}
+use Rattle.lnt_header_bytes.specs.HeaderFaults.{AreFieldBytes, Singles, zero_reasons}
+use Rattle.lnt_header_bytes.specs.HeaderFaults.IsSoundFault.{missing, zero_byte}
 use Rattle.lnt_header_bytes.specs.HeaderFaults.IsStartFault.{address_size, selector, header_length}
 use Rattle.lnt_header.specs.FieldFaults.IsCutField.{number}
 use Rattle.lnt_header_bytes.specs.Broken.{InHeader, UpToLimit, IsAt}
 use Rattle.lnt_header.specs.FieldFaults.FirstOf.{first, second}
 use Rattle.lnt_header_bytes.proofs.WrongTables.{small_offset, IsWrongTable, wrong_after, wrong_table}
 use Rattle.lnt_header.proofs.ReaderLaws.{cut_later}
+use Rattle.std.proofs.lemmas.Grind.{common_steps}
 
 cut_at : (order : Order) (before left from : List ℕ) → 0 < length before → UpToLimit order left before from → IsCutField before left
     → IsAt order Truncated before from
@@ -27,19 +31,46 @@ place : (order : Order) (b c l m before from : List ℕ) → InHeader order b l 
 place order b c l m before from w e g =
     subst (λ (z : List ℕ). InHeader order z m before from) e (subst (λ (z : List ℕ). InHeader order b z before from) g w)
 
+at_zero : (order : Order) (reason : Reason) (done past : List (Option Reason)) (more head b l from : List ℕ)
+    → zero_reasons true ≡ done ++ Some reason ∷ past → AreFieldBytes done b → l ≡ 0 ∷ more → InHeader order b l (head ++ b) from
+    → IsAt order reason (head ++ b) from
+at_zero order reason (d ∷ []) past more head (m ∷ []) l from e s zero w =
+    let is : MaxOpsZero ≡ reason = cc in
+    rw (← is) (m, more, place order (m ∷ []) (m ∷ []) l (0 ∷ more) (head ++ m ∷ []) from w refl zero)
+at_zero order reason (d0 ∷ d1 ∷ d2 ∷ d3 ∷ []) past more head (m ∷ ops ∷ stmt ∷ base ∷ []) l from e s zero w =
+    let is : LineRangeZero ≡ reason = cc in
+    let b = m ∷ ops ∷ stmt ∷ base ∷ [] in
+    let ops_is : Some MaxOpsZero ≡ d1 = cc in
+    rw (← is) (m, ops, stmt, base, more, rw (← ops_is) at s.1.0, place order b b l (0 ∷ more) (head ++ b) from w refl zero)
+at_zero order reason (d0 ∷ d1 ∷ d2 ∷ d3 ∷ d4 ∷ []) past more head (m ∷ ops ∷ stmt ∷ base ∷ range ∷ []) l from e s zero w =
+    let is : OpcodeBaseZero ≡ reason = cc in
+    let b = m ∷ ops ∷ stmt ∷ base ∷ range ∷ [] in
+    let ops_is : Some MaxOpsZero ≡ d1 = cc in
+    let range_is : Some LineRangeZero ≡ d4 = cc in
+    rw (← is) (
+      m,
+      ops,
+      stmt,
+      base,
+      range,
+      more,
+      rw (← ops_is) at s.1.0,
+      rw (← range_is) at s.1.1.1.1.0,
+      place order b b l (0 ∷ more) (head ++ b) from w refl zero,
+    )
+at_zero order reason (d0 ∷ d1 ∷ d2 ∷ d3 ∷ d4 ∷ d5 ∷ done) past more head b l from e s zero w =
+    absurd (omega (arith, ap length e, length-append done (Some reason ∷ past)))
+at_zero order reason done past more head b l from e s zero w = absurd (grind (arith, common_steps))
+
 -- what is wrong after header_length is what the table of places says, wherever the unit stands
 at_singles : (order : Order) (reason : Reason) (head b l from : List ℕ) → InHeader order b l (head ++ b) from → 0 < length (head ++ b)
-    → IsSinglesFault reason b l → IsAt order reason (head ++ b) from
-at_singles order Truncated head b l from w some h =
-    cut_at order (head ++ b) l from some (inr (b, w)) (number 1 (omega arith) (omega (arith, ap length h.ends)))
-at_singles order MaxOpsZero head b l from w some h = (h.0, h.1, place order b (h.0 ∷ []) l (0 ∷ h.1) (head ++ b) from w h.2 h.3)
-at_singles order LineRangeZero head b l from w some h =
-    (h.0, h.1, h.2, h.3, h.4, h.5, place order b (h.0 ∷ h.1 ∷ h.2 ∷ h.3 ∷ []) l (0 ∷ h.4) (head ++ b) from w h.6 h.7)
-at_singles order OpcodeBaseZero head b l from w some h =
-    (h.0, h.1, h.2, h.3, h.4, h.5, h.6, h.7, place order b (h.0 ∷ h.1 ∷ h.2 ∷ h.3 ∷ h.4 ∷ []) l (0 ∷ h.5) (head ++ b) from w h.8 h.9)
-at_singles order reason head b l from w some h = absurd h
+    → IsSinglesFault true reason b l → IsAt order reason (head ++ b) from
+at_singles order reason head b l from w some (missing done zero_reason past e s reason_is ends) =
+    rw reason_is (cut_at order (head ++ b) l from some (inr (b, w)) (number 1 (omega arith) (omega (arith, ap length ends))))
+at_singles order reason head b l from w some (zero_byte done past more e s zero) =
+    at_zero order reason done past more head b l from e s zero w
 
-at_lengths : (order : Order) (reason : Reason) (s : Singles) (six past head b l from : List ℕ) → SinglesBytes s six → b ≡ six ++ past
+at_lengths : (order : Order) (reason : Reason) (s : Singles) (six past head b l from : List ℕ) → SinglesBytes true s six → b ≡ six ++ past
     → InHeader order b l (head ++ b) from → 0 < length (head ++ b)
     → IsLengthsFault s.opcode_base reason past l → IsAt order reason (head ++ b) from
 at_lengths order Truncated s six past head b l from p e w some h =
@@ -48,7 +79,7 @@ at_lengths order (StandardLength opcode given) s six past head b l from p e w so
   s.minimum_instruction_length,
   s.max_ops,
   s.default_is_stmt,
-  s.line_base,
+  cast_unsigned w8 s.line_base,
   s.line_range,
   s.opcode_base,
   past,
@@ -60,7 +91,8 @@ at_lengths order (StandardLength opcode given) s six past head b l from p e w so
   h.3,
   h.4,
   h.5,
-  place order b (s.minimum_instruction_length ∷ s.max_ops ∷ s.default_is_stmt ∷ s.line_base ∷ s.line_range ∷ s.opcode_base ∷ past) l
+  place order b (s.minimum_instruction_length ∷ s.max_ops ∷ s.default_is_stmt ∷ cast_unsigned w8 s.line_base ∷ s.line_range
+      ∷ s.opcode_base ∷ past) l
       (given ∷ h.0) (head ++ b) from w
       (e ∙ ap (λ (z : List ℕ). z ++ past) p.spelled) h.6,
 )

@@ -149,7 +149,7 @@ counted_one format order Truncated other bytes h k = absurd k
 counted_one format order HeaderLength other bytes h k = absurd k
 counted_one format order reason other bytes h k = absurd h
 
-counted_fault : (format : Format) (order : Order) → IsOneFieldFault (CountedBytes format order) (IsCountedFault format order)
+pub counted_fault : (format : Format) (order : Order) → IsOneFieldFault (CountedBytes format order) (IsCountedFault format order)
 counted_fault format order = record { none = counted_none format order; one = counted_one format order }
 
 pub refuses_length : (format : Format) (old : At) (fault : Fault)

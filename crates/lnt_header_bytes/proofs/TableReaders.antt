@@ -169,7 +169,7 @@ values_fault format order pairs =
     fault_as (ValuesBytes format order pairs) (IsChainFault format order pairs) (IsEntryFault format order pairs)
     (entry_chain format order pairs) (chain_fault format order pairs)
 
-entry_fault : (format : Format) (order : Order) (pairs : List Pair)
+pub entry_fault : (format : Format) (order : Order) (pairs : List Pair)
     → IsOneFault (EntryBytes format order pairs) (IsEntryFault format order pairs)
 entry_fault format order pairs = fault_of_part (ValuesBytes format order pairs) (EntryBytes format order pairs)
     (IsEntryFault format order pairs) (λ entry. entry.values) (λ entry x p. p) (values_fault format order pairs)

@@ -1,5 +1,5 @@
 -- Tables and headers whose entries stay where they lie.
-use Rattle.std.proofs.Common.{◌≡◌, ℕ, ◌<◌, List, length, refl, sym, ap, subst, get_or, ◌∙◌, arith}
+use Rattle.std.proofs.Common.{◌≡◌, ℕ, ◌<◌, List, length, refl, sym, ap, subst, get_or, ◌∙◌, arith, true}
 use Rattle.lnt_wire.specs.Reading.{At, Reads}
 use Rattle.lnt_wire.specs.Bytes.{NoneSpelled}
 use Rattle.lnt_wire.specs.Leb128.{UnsignedLeb}
@@ -86,7 +86,7 @@ entries_there table count old is same lies none = grind (arith, common_steps, se
 -- ---- headers
 
 pub fields_read : (format : Format) (s : Singles) (ls : List ℕ) (directories files : EntryTableRead) (old m1 m2 m3 new : At)
-    → Reads SinglesBytes s old m1 → Reads (LengthsBytes s.opcode_base) ls m1 m2
+    → Reads (SinglesBytes true) s old m1 → Reads (LengthsBytes s.opcode_base) ls m1 m2
     → IsEntryTableRead format directories m2 m3 → IsEntryTableRead format files m3 new → AreFieldsRead format s ls directories files old new
 fields_read format s ls directories files old m1 m2 m3 new r t d f = grind (arith, common_steps, reads_fields)
 

@@ -1,6 +1,6 @@
 -- The fields that header_length counts, as they are read one after another. No public contract speaks of these: `HeaderFieldsBytes`
 -- has the same fields.
-use Rattle.std.specs.Prelude.{ℕ, List}
+use Rattle.std.specs.Prelude.{ℕ, List, true}
 use Rattle.lnt_wire.specs.declared.format.Format.{Format}
 use Rattle.lnt_wire.specs.declared.format.Order.{Order}
 use Rattle.lnt_header.specs.Joins.{Both}
@@ -23,4 +23,4 @@ AfterSingles format order s v bytes = Both (LengthsBytes s.opcode_base) (AfterLe
 
 -- six fields of one byte, the standard opcode lengths, the directories and the files
 abbrev pub FieldsBytes : Format → Order → Singles × (List ℕ × (Table × Table)) → List ℕ → Type 0
-FieldsBytes format order v bytes = Both SinglesBytes (AfterSingles format order) v bytes
+FieldsBytes format order v bytes = Both (SinglesBytes true) (AfterSingles format order) v bytes

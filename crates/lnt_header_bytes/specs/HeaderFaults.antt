@@ -2,7 +2,9 @@
 -- 5, section 6.2.4).
 --     before   the bytes from the first field up to the place of the fault
 --     left     the bytes from the place on, up to the end of the header
-use Rattle.std.specs.Prelude.{◌≡◌, ℕ, ◌^◌, ◌<◌, List, [], ◌∷◌, ◌++◌, length, ◌≢◌, ◌+◌, ◌≤◌, slice_index}
+use Rattle.std.specs.Prelude.{◌≡◌, ℕ, ◌^◌, ◌<◌, List, [], ◌∷◌, ◌++◌, length, ◌≢◌, ◌+◌, ◌≤◌, slice_index, Bool, true, false}
+use Rattle.std.specs.Prelude.{Option, Some, None, FitsSigned}
+use Rattle.std.specs.Int.{w8, cast_unsigned}
 use Rattle.lnt_wire.specs.declared.format.Format.{Format}
 use Rattle.lnt_wire.specs.declared.format.Order.{Order}
 use Rattle.lnt_wire.specs.declared.fault.Reason.{Reason}
@@ -50,30 +52,59 @@ pub data IsStartFault (format : Format) (order : Order) (reason : Reason) (befor
 
 -- ---- fields of one byte
 
--- The bytes of the six fields before the standard opcode lengths.
-pub record SinglesBytes (s : Singles) (bytes : List ℕ) : Type 0 where
-  pub spelled : bytes ≡ s.minimum_instruction_length ∷ s.max_ops ∷ s.default_is_stmt ∷ s.line_base ∷ s.line_range ∷ s.opcode_base ∷ []
+-- the six fields before the standard opcode lengths, in order: why each may not be 0, where it may not. Before version 4 there is no
+-- max_ops among them.
+abbrev pub zero_reasons : Bool → List (Option Reason)
+zero_reasons true = None ∷ Some MaxOpsZero ∷ None ∷ None ∷ Some LineRangeZero ∷ Some OpcodeBaseZero ∷ []
+zero_reasons false = None ∷ None ∷ None ∷ Some LineRangeZero ∷ Some OpcodeBaseZero ∷ []
+
+abbrev pub MayBe : Option Reason → ℕ → Type 0
+MayBe None byte = Unit {0}
+MayBe (Some reason) byte = 0 < byte
+
+-- a byte for each field, and none is 0 that may not be
+abbrev pub AreFieldBytes : List (Option Reason) → List ℕ → Type 0
+AreFieldBytes [] [] = Unit {0}
+AreFieldBytes (zero_reason ∷ zero_reasons) (byte ∷ bytes) = MayBe zero_reason byte × AreFieldBytes zero_reasons bytes
+AreFieldBytes [] (byte ∷ bytes) = ⊥
+AreFieldBytes (zero_reason ∷ zero_reasons) [] = ⊥
+
+abbrev pub SoundBytes : List (Option Reason) → List ℕ → List ℕ → Type 0
+SoundBytes zero_reasons values bytes = AreFieldBytes zero_reasons bytes × (values ≡ bytes)
+
+-- The first field that isn't there, or is 0 and may not be, after sound ones.
+--     before   the bytes up to the place of the fault
+--     left     the bytes from the place on
+pub data IsSoundFault (zero_reasons : List (Option Reason)) (reason : Reason) (before left : List ℕ) : Type 0 where
+  missing : (done : List (Option Reason)) (zero_reason : Option Reason) (past : List (Option Reason))
+      → zero_reasons ≡ done ++ zero_reason ∷ past → AreFieldBytes done before → reason ≡ Truncated → left ≡ []
+      → IsSoundFault zero_reasons reason before left
+  zero_byte : (done past : List (Option Reason)) (more : List ℕ) → zero_reasons ≡ done ++ Some reason ∷ past → AreFieldBytes done before
+      → left ≡ 0 ∷ more → IsSoundFault zero_reasons reason before left
+
+-- the reasons why the six can't be read
+abbrev pub IsSinglesFault : Bool → Reason → List ℕ → List ℕ → Type 0
+IsSinglesFault has_max_ops = IsSoundFault (zero_reasons has_max_ops)
+
+-- their bytes
+abbrev pub single_fields : Bool → Singles → List ℕ
+single_fields true s =
+    s.minimum_instruction_length ∷ s.max_ops ∷ s.default_is_stmt ∷ cast_unsigned w8 s.line_base ∷ s.line_range ∷ s.opcode_base ∷ []
+single_fields false s = s.minimum_instruction_length ∷ s.default_is_stmt ∷ cast_unsigned w8 s.line_base ∷ s.line_range ∷ s.opcode_base ∷ []
+
+-- where max_ops isn't among them, it is 1
+abbrev pub SaysMaxOps : Bool → ℕ → Type 0
+SaysMaxOps true max_ops = Unit {0}
+SaysMaxOps false max_ops = max_ops ≡ 1
+
+-- The bytes of the numbers.
+pub record SinglesBytes (has_max_ops : Bool) (s : Singles) (bytes : List ℕ) : Type 0 where
+  pub spelled : bytes ≡ single_fields has_max_ops s
+  pub says : SaysMaxOps has_max_ops s.max_ops
+  pub line_base : FitsSigned w8 s.line_base
   pub max_ops : 0 < s.max_ops
   pub line_range : 0 < s.line_range
   pub opcode_base : 0 < s.opcode_base
-
--- Fewer than six bytes are left, and those that mustn't be 0 aren't.
-pub record AreCutSingles (before left : List ℕ) : Type 0 where
-  pub ends : left ≡ []
-  pub few : length before < 6
-  pub max_ops : 1 < length before → 0 < slice_index before 1
-  pub line_range : 4 < length before → 0 < slice_index before 4
-
--- the reasons why these six can't be read
-abbrev pub IsSinglesFault : Reason → List ℕ → List ℕ → Type 0
-IsSinglesFault Truncated before left = AreCutSingles before left
-IsSinglesFault MaxOpsZero before left = (minimum : ℕ) × (more : List ℕ) × (before ≡ minimum ∷ []) × (left ≡ 0 ∷ more)
-IsSinglesFault LineRangeZero before left = (minimum max_ops default_is_stmt line_base : ℕ) × (more : List ℕ) × (0 < max_ops)
-    × (before ≡ minimum ∷ max_ops ∷ default_is_stmt ∷ line_base ∷ []) × (left ≡ 0 ∷ more)
-IsSinglesFault OpcodeBaseZero before left =
-    (minimum max_ops default_is_stmt line_base line_range : ℕ) × (more : List ℕ) × (0 < max_ops) × (0 < line_range)
-    × (before ≡ minimum ∷ max_ops ∷ default_is_stmt ∷ line_base ∷ line_range ∷ []) × (left ≡ 0 ∷ more)
-IsSinglesFault _ before left = ⊥
 
 -- The bytes of the standard opcode lengths.
 abbrev pub LengthsBytes : ℕ → List ℕ → List ℕ → Type 0
@@ -105,4 +136,4 @@ AfterSinglesFault format order s = FirstOf (LengthsBytes s.opcode_base) (IsLengt
 
 -- the six fields, or what comes after them
 abbrev pub IsHeaderFault : Format → Order → Reason → List ℕ → List ℕ → Type 0
-IsHeaderFault format order = FirstOf SinglesBytes IsSinglesFault (AfterSinglesFault format order)
+IsHeaderFault format order = FirstOf (SinglesBytes true) (IsSinglesFault true) (AfterSinglesFault format order)

@@ -1,10 +1,9 @@
--- What the steps of decoding a header have found. Public contracts speak of `standing` alone.
+-- What the steps of decoding a header have found. Public contracts speak of `standing` and `numbers_with` alone.
 use Rattle.std.specs.Prelude.{◌≡◌, ℕ, ◌+◌, List, ◌++◌, length}
 use Rattle.lnt_wire.specs.Reading.{At}
 use Rattle.lnt_wire.specs.FrameBytes.{version_five, initial_length}
 use Rattle.lnt_wire.specs.declared.format.Format.{Format}
 use Rattle.lnt_wire.specs.declared.format.Order.{Order}
-use Rattle.std.specs.Int.{w8, cast_unsigned, cast_signed}
 use Rattle.lnt_header.specs.Parts.{HeaderParts}
 use Rattle.lnt_header.specs.declared.numbers.NumberParts.{NumberParts}
 use Rattle.lnt_header_bytes.specs.declared.numbers.Singles.{Singles}
@@ -35,7 +34,7 @@ numbers_with order address_size s lengths = record {
   minimum_instruction_length = s.minimum_instruction_length;
   max_ops = s.max_ops;
   default_is_stmt = s.default_is_stmt;
-  line_base = cast_signed w8 (cast_unsigned w8 (cast_signed w8 s.line_base));
+  line_base = s.line_base;
   line_range = s.line_range;
   opcode_base = s.opcode_base;
   standard_lengths = lengths;

@@ -1,6 +1,6 @@
 -- What the bodies of this crate say of one step: of a reader of tables, and of what keeps their entries. Bodies of
 -- lnt_dump pass over values too. No public contract speaks of it.
-use Rattle.std.specs.Prelude.{◌≤◌, length, take, drop, ◌≡◌, ℕ, List, [], ◌∷◌, ◌++◌}
+use Rattle.std.specs.Prelude.{◌≤◌, length, take, drop, ◌≡◌, ℕ, List, [], ◌∷◌, ◌++◌, Option, Some}
 use Rattle.lnt_header.specs.Parts.{HeaderParts}
 use Rattle.lnt_header_bytes.specs.Borrowed.{entry_of, header_over, IsHeaderOver, NumbersAndFormats, BorrowedTable, borrowed_table}
 use Rattle.lnt_header_bytes.specs.Borrowed.{AreEntryBytes}
@@ -16,6 +16,9 @@ use Rattle.lnt_header.specs.declared.header.Pair.{Pair}
 use Rattle.lnt_header_bytes.specs.declared.numbers.Singles.{Singles}
 use Rattle.lnt_header_bytes.specs.declared.read_table.EntryTableRead.{EntryTableRead}
 use Rattle.lnt_header_bytes.specs.FieldsBytes.{FieldsBytes}
+use Rattle.lnt_header_bytes.specs.HeaderFaults.{MayBe}
+use Rattle.lnt_wire.specs.declared.fault.Reason.{Reason}
+use Rattle.lnt_wire.specs.declared.fault.Reason.TheVariants.{Truncated}
 use Rattle.lnt_header.specs.Joins.{Each}
 use Rattle.lnt_header_bytes.specs.TableBytes.{EntryBytes, TableOf}
 
@@ -88,6 +91,17 @@ pub record ReadsNext {X : Type 0} (Spells : X → List ℕ → Type 0) (before a
   pub value : X
   pub added : after ≡ before ++ value ∷ []
   pub read : Reads Spells value old new
+
+-- ---- fields of one byte
+
+-- a byte that the field may hold
+abbrev pub ByteOf : Option Reason → ℕ → List ℕ → Type 0
+ByteOf zero_reason byte bytes = MayBe zero_reason byte × (bytes ≡ byte ∷ [])
+
+-- It isn't there, or is 0 and may not be.
+pub data IsByteFault (zero_reason : Option Reason) (reason : Reason) (bytes : List ℕ) : Type 0 where
+  no_byte : reason ≡ Truncated → bytes ≡ [] → IsByteFault zero_reason reason bytes
+  is_zero : (more : List ℕ) → zero_reason ≡ Some reason → bytes ≡ 0 ∷ more → IsByteFault zero_reason reason bytes
 
 -- ---- entries that are kept
 

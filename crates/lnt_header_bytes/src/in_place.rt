@@ -7,16 +7,16 @@ ghost use Rattle.lnt_header_bytes.specs.Broken.{BrokenHeader};
 ghost use Rattle.lnt_header_bytes.specs.FieldsBytes.{FieldsBytes};
 ghost use Rattle.lnt_header_bytes.specs.HeaderFaults.{IsHeaderFault};
 ghost use Rattle.lnt_header_bytes.specs.HeaderBytes.{HeaderBytesIn};
-ghost use Rattle.lnt_header_bytes.specs.HeaderReading.{HasFields, numbers_with, standing};
+ghost use Rattle.lnt_header_bytes.specs.HeaderReading.{HasFields, standing};
 ghost use Rattle.lnt_header.specs.HeaderRules.{IsAddressSize, IsHeader};
 
 use crate::decode::after_version;
 use crate::header_view::HeaderView;
 use crate::marks::Marks;
-use crate::numbers::{Singles, read_lengths, read_singles};
+use crate::numbers::{Singles, numbers_of, read_lengths, read_singles};
 use crate::read_table::{EntriesInPlace, EntryTableRead, read_table};
 use crate::start::read_start;
-use lnt_header::{HeaderNumbers, NumberParts, Pair};
+use lnt_header::{HeaderNumbers, Pair};
 use lnt_wire::{Cursor, Fault, Format, Frame, Items, Order, Reason, copied};
 use std::alloc::Global;
 use std::marker::Model;
@@ -145,23 +145,6 @@ fn view_parts<'a>(
     })
 }
 
-// The numbers that these fields are.
-fn numbers_of(singles: Singles, lengths: Items<u8>, order: Order, address_size: u8) -> NumberParts
-    ensures { result ≡ numbers_with order address_size singles lengths }
-{
-    NumberParts {
-        order,
-        address_size,
-        minimum_instruction_length: singles.minimum_instruction_length,
-        max_ops: singles.max_ops,
-        default_is_stmt: singles.default_is_stmt,
-        line_base: singles.line_base.cast_signed(),
-        line_range: singles.line_range,
-        opcode_base: singles.opcode_base,
-        standard_lengths: lengths,
-    }
-}
-
 // The parts of a header that are read before its last bytes.
 #[derive(Drop)]
 struct FieldsRead<'a> {
@@ -182,7 +165,7 @@ fn read_fields<'a>(
     ensures err { IfErr result (λ fault. RefusesOr (IsHeaderFault format cursor.old.order) (FieldsBytes format cursor.old.order) cursor.old
         fault) }
 {
-    let singles = read_singles(cursor)?;
+    let singles = read_singles(cursor, true)?;
     let lengths = read_lengths(cursor, singles.opcode_base)?;
     let directories = read_table(alloc, cursor, format)?;
     let files = read_table(alloc, cursor, format)?;

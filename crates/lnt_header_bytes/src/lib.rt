@@ -24,7 +24,7 @@ pub use header_view::HeaderView;
 pub use in_place::{HeaderInPlace, view_header};
 pub use kept::KeptHeader;
 pub use marks::{Mark, Marks};
-pub use numbers::read_lengths;
+pub use numbers::{Singles, numbers_of, read_lengths, read_singles};
 pub use read_table::EntriesInPlace;
 pub use start::read_counted;
 pub use table_view::EntryTableView;

@@ -1,64 +1,166 @@
 //! The fields of one byte of a header.
-ghost use Rattle.std.specs.Prelude.{◌≡◌, ◌-◌, ◌+◌, ◌<◌, ◌≤◌, take, IfOk, IfErr};
-ghost use Rattle.lnt_wire.specs.Reading.{Reads, Refuses};
+ghost use Rattle.std.specs.Prelude.{◌≡◌, ◌-◌, ◌+◌, ◌<◌, ◌≤◌, take, true, IfOk, IfErr};
+ghost use Rattle.lnt_wire.specs.Reading.{Reads, RefusesField, Refuses};
 ghost use Rattle.lnt_header.specs.OpRules.{last_known};
 ghost use Rattle.lnt_header_bytes.specs.HeaderFaults.{SinglesBytes, IsSinglesFault, LengthsBytes, IsLengthsFault};
+ghost use Rattle.lnt_header_bytes.specs.HeaderFaults.{AreFieldBytes, IsSoundFault, SoundBytes, single_fields, zero_reasons};
+ghost use Rattle.lnt_header_bytes.specs.HeaderReading.{numbers_with};
+ghost use Rattle.lnt_header_bytes.specs.Stepping.{ByteOf, IsByteFault};
 
-use lnt_header::{LAST_KNOWN, known_length};
-use lnt_wire::{Cursor, Fault, Reason};
+use lnt_header::{LAST_KNOWN, NumberParts, known_length};
+use lnt_wire::{Cursor, Fault, Items, Order, Reason};
 
-/// The six fields of one byte each before the standard opcode lengths, unchanged: `line_base` is the byte of a signed
-/// number.
-#[derive(Clone, Copy)]
-pub(crate) struct Singles {
+/// The six numbers of one byte before the standard opcode lengths, with `max_ops` 1 where a version has no such field.
+#[derive(Clone, Copy, Debug)]
+pub struct Singles {
+    /// How many bytes the smallest instruction has.
     pub minimum_instruction_length: u8,
+    /// `maximum_operations_per_instruction`: how many operations an instruction has at most.
     pub max_ops: u8,
+    /// Whether a row begins a statement by default: where it isn't 0.
     pub default_is_stmt: u8,
-    pub line_base: u8,
+    /// The least number that a special opcode adds to the line.
+    pub line_base: i8,
+    /// How many different numbers the special opcodes add to the line.
     pub line_range: u8,
+    /// The first special opcode.
     pub opcode_base: u8,
 }
 
-/// Reads the six fields of one byte before the standard opcode lengths. Fails at a field that is 0 but mustn't be, and,
-/// with `Truncated`, at the end of the bytes if fewer than six are left.
-#[tactic(auto, using(crate::proofs::HeaderReaders::read_singles_lemmas))]
-pub(crate) fn read_singles(cursor: &mut Cursor<'_>) -> Result<Singles, Fault>
-    ensures ok { IfOk result (λ s. Reads SinglesBytes s cursor.old cursor.new) }
-    ensures err { IfErr result (λ fault. Refuses IsSinglesFault SinglesBytes cursor.old fault) }
+impl Singles {
+    /// The fields of one byte that say the numbers from version 4 on.
+    pub fn single_fields(&self) -> [u8; 6]
+        ensures { result ≡ single_fields true self.now }
+    {
+        [
+            self.minimum_instruction_length,
+            self.max_ops,
+            self.default_is_stmt,
+            self.line_base.cast_unsigned(),
+            self.line_range,
+            self.opcode_base,
+        ]
+    }
+}
+
+/// The numbers of a header with these fields, whose standard opcode lengths these are, in this order and with this address size.
+pub fn numbers_of(
+    singles: Singles,
+    lengths: Items<u8>,
+    order: Order,
+    address_size: u8,
+) -> NumberParts
+    ensures { result ≡ numbers_with order address_size singles lengths }
 {
-    let bytes = cursor.rest();
+    NumberParts {
+        order,
+        address_size,
+        minimum_instruction_length: singles.minimum_instruction_length,
+        max_ops: singles.max_ops,
+        default_is_stmt: singles.default_is_stmt,
+        line_base: singles.line_base,
+        line_range: singles.line_range,
+        opcode_base: singles.opcode_base,
+        standard_lengths: lengths,
+    }
+}
+
+/// Reads the fields of one byte before the standard opcode lengths, of a version with or without `max_ops`. It refuses the first of
+/// them that is 0 and may not be, at that field, and with `Truncated` where there are fewer, at their end.
+#[tactic(auto, using(crate::proofs::SoundLemmas::singles_read, crate::proofs::SoundLemmas::singles_refused))]
+pub fn read_singles(cursor: &mut Cursor<'_>, has_max_ops: bool) -> Result<Singles, Fault>
+    ensures ok { IfOk result (λ s. Reads (SinglesBytes has_max_ops) s cursor.old cursor.new) }
+    ensures err { IfErr result (λ fault. Refuses (IsSinglesFault has_max_ops) (SinglesBytes has_max_ops) cursor.old fault) }
+{
+    let bytes = read_bytes(cursor, has_max_ops)?;
+    Ok(singles_of(has_max_ops, bytes))
+}
+
+// The bytes of these fields.
+fn read_bytes<'a>(cursor: &mut Cursor<'a>, has_max_ops: bool) -> Result<&'a [u8], Fault>
+    ensures ok { IfOk result (λ bytes. Reads (SoundBytes (zero_reasons has_max_ops)) bytes.now cursor.old cursor.new) }
+    ensures err { IfErr result (λ fault. Refuses (IsSinglesFault has_max_ops) (SoundBytes (zero_reasons has_max_ops)) cursor.old fault) }
+{
+    if has_max_ops {
+        read_sound(cursor, &ZERO_REASONS)
+    } else {
+        read_sound(cursor, &ZERO_REASONS_BEFORE_4)
+    }
+}
+
+// Why each of the fields may not be 0, where it may not.
+const ZERO_REASONS: [Option<Reason>; 6] = [
+    None,
+    Some(Reason::MaxOpsZero),
+    None,
+    None,
+    Some(Reason::LineRangeZero),
+    Some(Reason::OpcodeBaseZero),
+];
+
+// The same without `maximum_operations_per_instruction`.
+const ZERO_REASONS_BEFORE_4: [Option<Reason>; 5] = [
+    None,
+    None,
+    None,
+    Some(Reason::LineRangeZero),
+    Some(Reason::OpcodeBaseZero),
+];
+
+// The numbers that these bytes say.
+fn singles_of(has_max_ops: bool, bytes: &[u8]) -> Singles
+    requires { AreFieldBytes (zero_reasons has_max_ops) bytes.now }
+    ensures { SinglesBytes has_max_ops result bytes.now }
+{
+    if has_max_ops {
+        Singles {
+            minimum_instruction_length: bytes[0],
+            max_ops: bytes[1],
+            default_is_stmt: bytes[2],
+            line_base: bytes[3].cast_signed(),
+            line_range: bytes[4],
+            opcode_base: bytes[5],
+        }
+    } else {
+        Singles {
+            minimum_instruction_length: bytes[0],
+            max_ops: 1,
+            default_is_stmt: bytes[1],
+            line_base: bytes[2].cast_signed(),
+            line_range: bytes[3],
+            opcode_base: bytes[4],
+        }
+    }
+}
+
+// Reads a byte for each field, which is told why it may not be 0, where it may not.
+#[tactic(auto, using(crate::proofs::SoundLemmas::sound_walk))]
+fn read_sound<'a>(
+    cursor: &mut Cursor<'a>,
+    zero_reasons: &[Option<Reason>],
+) -> Result<&'a [u8], Fault>
+    ensures ok { IfOk result (λ bytes. Reads (SoundBytes zero_reasons.now) bytes.now cursor.old cursor.new) }
+    ensures err { IfErr result (λ fault. Refuses (IsSoundFault zero_reasons.now) (SoundBytes zero_reasons.now) cursor.old fault) }
+{
+    let all = cursor.rest();
+    for zero_reason in zero_reasons {
+        read_byte(cursor, *zero_reason)?;
+    }
+    let (bytes, _) = all.split_at(all.len() - cursor.rest().len());
+    Ok(bytes)
+}
+
+// Reads the next byte.
+#[tactic(auto, using(crate::proofs::SoundLemmas::byte_exits))]
+fn read_byte(cursor: &mut Cursor<'_>, zero_reason: Option<Reason>) -> Result<u8, Fault>
+    ensures ok { IfOk result (λ byte. Reads (ByteOf zero_reason) byte cursor.old cursor.new) }
+    ensures err { IfErr result (λ fault. RefusesField (IsByteFault zero_reason) (ByteOf zero_reason) cursor.old fault) }
+{
     let place = cursor.place();
-    if bytes.len() > 1 && bytes[1] == 0 {
-        return Err(Fault {
-            place: place + 1,
-            reason: Reason::MaxOpsZero,
-        });
-    }
-    if bytes.len() > 4 && bytes[4] == 0 {
-        return Err(Fault {
-            place: place + 4,
-            reason: Reason::LineRangeZero,
-        });
-    }
-    if bytes.len() > 5 && bytes[5] == 0 {
-        return Err(Fault {
-            place: place + 5,
-            reason: Reason::OpcodeBaseZero,
-        });
-    }
-    match cursor.take(6) {
-        Ok(six) => Ok(Singles {
-            minimum_instruction_length: six[0],
-            max_ops: six[1],
-            default_is_stmt: six[2],
-            line_base: six[3],
-            line_range: six[4],
-            opcode_base: six[5],
-        }),
-        Err(_) => Err(Fault {
-            place: place + bytes.len() as u64,
-            reason: Reason::Truncated,
-        }),
+    let byte = cursor.u8()?;
+    match zero_reason {
+        Some(reason) if byte == 0 => Err(Fault { place, reason }),
+        _ => Ok(byte),
     }
 }
 

@@ -9,21 +9,24 @@ use Rattle.lnt_header.specs.HeaderRules.{AreHeaderNumbers, IsAddressSize}
 use Rattle.lnt_header.specs.Parts.{HeaderParts}
 use Rattle.lnt_header.specs.declared.numbers.NumberParts.{NumberParts}
 use Rattle.lnt_header_bytes.specs.HeaderFaults.{LengthsBytes}
-use Rattle.lnt_older.specs.OlderBytes.{body_bytes, directory_pairs, file_pairs, ListBytes, OlderBytesIn, OlderFieldsBytes, OlderVersion}
-use Rattle.lnt_older.specs.OlderFields.{header_of, number_fields, NumbersBytes}
-use Rattle.lnt_older.specs.declared.numbers.OlderNumbers.{OlderNumbers}
+use Rattle.lnt_older.specs.OlderBytes.{has_max_ops, body_bytes, directory_pairs, file_pairs, ListBytes, OlderBytesIn, OlderFieldsBytes, OlderVersion}
+use Rattle.lnt_header_bytes.specs.HeaderFaults.{SinglesBytes, single_fields}
+use Rattle.lnt_header_bytes.proofs.HeaderFrames.{singles_of}
+use Rattle.lnt_older.specs.OlderFields.{header_of}
+use Rattle.lnt_header_bytes.specs.declared.numbers.Singles.{Singles}
 use Rattle.lnt_older.specs.OlderUnits.{AnyParts, IsOlderUnit, five_parts, older_parts, ReadsFive, ReadsOlder, unit_header, OlderUnit}
 use Rattle.lnt_older.specs.FileZero.{AllNameFiles, HasFirstZeroRow, HasZeroRow, IsFirstOfBytes, IsFirstOfUnit, IsZeroRow, IsZeroRowAt}
 use Rattle.lnt_older.specs.FileZero.{IsFirstOfProgram, JudgesRows, NamesFiles, numbers_of}
 use Rattle.lnt_older.specs.Sections.{HasUnits}
 use Rattle.lnt_older.specs.Upgradable.{AreLeft, IsUnitNext}
-use Rattle.lnt_older.proofs.FieldLemmas.{lengths_code, list_code}
-use Rattle.lnt_older.proofs.HeaderLemmas.{numbers_in, singles_in}
+use Rattle.lnt_header_bytes.proofs.HeaderReaders.{lengths_code}
+use Rattle.lnt_older.proofs.FieldLemmas.{list_code}
+use Rattle.lnt_older.proofs.HeaderLemmas.{singles_in}
 use Rattle.lnt_older.proofs.NoUnitLemmas.{one_body}
 use Rattle.lnt_older.proofs.PlacedLaws.{left_all}
 use Rattle.lnt_older.proofs.SameUnitLemmas.{same_body}
 use Rattle.lnt_older.proofs.SectionLemmas.{IsSpelled, WalkedTo, any_long, fewer_left, unit_next, walked_all, walked_more, walked_none}
-use Rattle.lnt_older.proofs.SoundLemmas.{numbers_code}
+use Rattle.lnt_header_bytes.proofs.SoundLemmas.{singles_code}
 use Rattle.lnt_older.proofs.UpgradeLaws.{five_not_older, five_read, older_read}
 use Rattle.std.proofs.lemmas.Grind.{common_steps}
 
@@ -56,14 +59,14 @@ one_frame order f g v w fields other program past bytes fits fits' first second 
     }
 
 one_numbers : (h k : HeaderParts) → h.numbers.order ≡ k.numbers.order → h.numbers.address_size ≡ k.numbers.address_size
-    → numbers_in h ≡ numbers_in k → h.numbers.standard_lengths ≡ k.numbers.standard_lengths → h.numbers ≡ k.numbers
+    → singles_of h ≡ singles_of k → h.numbers.standard_lengths ≡ k.numbers.standard_lengths → h.numbers ≡ k.numbers
 one_numbers h k order size numbers lengths = grind (arith, common_steps)
 
 says_numbers : (v : OlderVersion) (h : HeaderParts) (fields : List ℕ) → OlderFieldsBytes v h fields
-    → NumbersBytes v (numbers_in h) (number_fields v (numbers_in h))
+    → SinglesBytes (has_max_ops v) (singles_of h) (single_fields (has_max_ops v) (singles_of h))
 says_numbers v h fields p = record {
   spelled = refl;
-  operations = p.operations;
+  says = p.operations;
   line_base = p.numbers.line_base;
   max_ops = p.numbers.max_ops;
   line_range = p.numbers.line_range;
@@ -72,7 +75,7 @@ says_numbers v h fields p = record {
 
 -- the fields one after another, grouped to the right
 fields_on : (v : OlderVersion) (h : HeaderParts) (fields : List ℕ) → (p : OlderFieldsBytes v h fields)
-    → fields ≡ number_fields v (numbers_in h) ++ (h.numbers.standard_lengths ++ (p.directories ++ (p.files ++ h.extra)))
+    → fields ≡ single_fields (has_max_ops v) (singles_of h) ++ (h.numbers.standard_lengths ++ (p.directories ++ (p.files ++ h.extra)))
 fields_on v h fields p = p.joined ∙ simp (singles_in v h, append_assoc)
 
 -- What header_length counts says one header, but for its directories.
@@ -80,16 +83,16 @@ one_fields : (v : OlderVersion) (h k : HeaderParts) (fields : List ℕ) → h.fo
     → h.numbers.address_size ≡ k.numbers.address_size → OlderFieldsBytes v h fields → OlderFieldsBytes v k fields
     → (h.numbers ≡ k.numbers) × (h.files ≡ k.files)
 one_fields v h k fields format order size p q =
-    let n = number_fields v (numbers_in h) in
-    let m = number_fields v (numbers_in k) in
+    let n = single_fields (has_max_ops v) (singles_of h) in
+    let m = single_fields (has_max_ops v) (singles_of k) in
     let l = h.numbers.standard_lengths in
     let j = k.numbers.standard_lengths in
     let all : n ++ (l ++ (p.directories ++ (p.files ++ h.extra))) ≡ m ++ (j ++ (q.directories ++ (q.files ++ k.extra))) =
     sym (fields_on v h fields p) ∙ fields_on v k fields q in
-    let numbers = (numbers_code v).one (numbers_in h) (numbers_in k) n m (l ++ (p.directories ++ (p.files ++ h.extra)))
+    let numbers = (singles_code (has_max_ops v)).one (singles_of h) (singles_of k) n m (l ++ (p.directories ++ (p.files ++ h.extra)))
     (j ++ (q.directories ++ (q.files ++ k.extra))) (says_numbers v h fields p) (says_numbers v k fields q) all in
     let past = same_rest n m (l ++ (p.directories ++ (p.files ++ h.extra))) (j ++ (q.directories ++ (q.files ++ k.extra))) numbers.1 all in
-    let base : h.numbers.opcode_base ≡ k.numbers.opcode_base = ap (λ (o : OlderNumbers). o.opcode_base) numbers.0 in
+    let base : h.numbers.opcode_base ≡ k.numbers.opcode_base = ap (λ (o : Singles). o.opcode_base) numbers.0 in
     let others : LengthsBytes h.numbers.opcode_base j j = (base ∙ q.numbers.opcode_base, q.numbers.lengths, refl) in
     let lengths = (lengths_code h.numbers.opcode_base).one l j l j (p.directories ++ (p.files ++ h.extra))
     (q.directories ++ (q.files ++ k.extra)) (p.numbers.opcode_base, p.numbers.lengths, refl) others past in

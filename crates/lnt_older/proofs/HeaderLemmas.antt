@@ -1,5 +1,5 @@
 -- Headers that are read.
-use Rattle.std.proofs.Common.{◌≡◌, ℕ, suc, ◌<◌, List, [], ◌∷◌, ◌++◌, get_or, refl, sym, subst, ◌∙◌, append_assoc, arith}
+use Rattle.std.proofs.Common.{◌≡◌, ℕ, ◌<◌, List, [], ◌++◌, get_or, refl, sym, subst, ◌∙◌, append_assoc, arith}
 use Rattle.std.specs.List.{AllByRecursion}
 use Rattle.lnt_wire.specs.Reading.{At, Reads}
 use Rattle.lnt_wire.specs.declared.format.Format.{Format}
@@ -9,37 +9,19 @@ use Rattle.lnt_header.specs.declared.header.Entry.{Entry}
 use Rattle.lnt_header.specs.Parts.{HeaderParts}
 use Rattle.lnt_header_bytes.specs.HeaderFaults.{LengthsBytes}
 use Rattle.lnt_older.specs.Lists.{PassesList}
-use Rattle.lnt_older.specs.OlderBytes.{directory_pairs, file_pairs, older_bytes, OlderFieldsBytes, SaysOperations, OlderVersion}
+use Rattle.lnt_older.specs.OlderBytes.{has_max_ops, directory_pairs, file_pairs, older_bytes, OlderFieldsBytes, SaysOperations, OlderVersion}
 use Rattle.lnt_older.specs.UnitReading.{ReadsParts}
-use Rattle.lnt_older.specs.OlderFields.{FieldsOf, header_of, IsReadHeader, NumbersBytes, number_fields}
+use Rattle.lnt_older.specs.OlderFields.{FieldsOf, header_of, IsReadHeader}
+use Rattle.lnt_header_bytes.specs.HeaderFaults.{SinglesBytes, single_fields}
+use Rattle.lnt_header_bytes.proofs.HeaderFrames.{singles_of}
 use Rattle.lnt_older.specs.declared.header.OlderHeader.{OlderHeader}
-use Rattle.lnt_older.specs.declared.numbers.OlderNumbers.{OlderNumbers}
+use Rattle.lnt_header_bytes.specs.declared.numbers.Singles.{Singles}
+use Rattle.lnt_header_bytes.proofs.DecodeLemmas.{are_bytes, prefix_bytes, to_right}
 use Rattle.lnt_older.proofs.FieldLemmas.{fields_read}
 use Rattle.std.proofs.lemmas.Grind.{common_steps}
 
-are_bytes : (bytes : List ℕ) → ((i : ℕ) → get_or bytes i 0 < 256) → AllByRecursion (λ byte. byte < 256) bytes
-are_bytes [] h = tt
-are_bytes (b ∷ bytes) h = (h 0, are_bytes bytes (λ i. h (suc i)))
-
-prefix_bytes : (x y : List ℕ) → AllByRecursion (λ byte. byte < 256) (x ++ y) → AllByRecursion (λ byte. byte < 256) x
-prefix_bytes [] y h = tt
-prefix_bytes (b ∷ x) y h = (h.0, prefix_bytes x y h.1)
-
-pub to_right : (a b c d : List ℕ) → a ++ b ++ c ++ d ≡ a ++ (b ++ (c ++ d))
-to_right a b c d = simp append_assoc
-
-abbrev pub numbers_in : HeaderParts → OlderNumbers
-numbers_in h = record {
-  minimum_instruction_length = h.numbers.minimum_instruction_length;
-  max_ops = h.numbers.max_ops;
-  default_is_stmt = h.numbers.default_is_stmt;
-  line_base = h.numbers.line_base;
-  line_range = h.numbers.line_range;
-  opcode_base = h.numbers.opcode_base;
-}
-
 pub singles_in : (version : OlderVersion) (h : HeaderParts)
-    → older_bytes version h.numbers ≡ number_fields version (numbers_in h) ++ h.numbers.standard_lengths
+    → older_bytes version h.numbers ≡ single_fields (has_max_ops version) (singles_of h) ++ h.numbers.standard_lengths
 singles_in version h = grind (arith, common_steps)
 
 numbers_small : (version : OlderVersion) (h : HeaderParts) → SaysOperations version h.numbers.max_ops
@@ -47,12 +29,12 @@ numbers_small : (version : OlderVersion) (h : HeaderParts) → SaysOperations ve
 numbers_small version h says all = grind (arith, common_steps)
 
 -- the numbers of a header are sound in any format and order, and with any directories and files
-pub moved_numbers : (f : Format) {o p : Order} {size : ℕ} {n : OlderNumbers} {lengths : List ℕ}
+pub moved_numbers : (f : Format) {o p : Order} {size : ℕ} {n : Singles} {lengths : List ℕ}
     → AreHeaderNumbers (header_of f o size n lengths [] [] []).numbers
     → AreHeaderNumbers (header_of f p size n lengths [] [] []).numbers
 moved_numbers f n = grind (arith, common_steps)
 
-spelled_at : (version : OlderVersion) (format : Format) (order : Order) (bytes : List ℕ) (n : OlderNumbers) (lengths : List ℕ)
+spelled_at : (version : OlderVersion) (format : Format) (order : Order) (bytes : List ℕ) (n : Singles) (lengths : List ℕ)
     (directories files : List Entry) (extra : List ℕ) (old new : At) → ((i : ℕ) → get_or bytes i 0 < 256) → old.rest ≡ bytes
     → extra ≡ new.rest → Reads (FieldsOf version format order) (n, (lengths, (directories, files))) old new
     → (size : ℕ) → IsAddressSize size → OlderFieldsBytes version (header_of format order size n lengths directories files extra) bytes
@@ -81,13 +63,13 @@ spelled_at version format order bytes n lengths directories files extra old new 
       numbers = record {
         address_size = is;
         line_base = p1.first.line_base;
-        bytes = numbers_small version h p1.first.operations all;
+        bytes = numbers_small version h p1.first.says all;
         max_ops = p1.first.max_ops;
         line_range = p1.first.line_range;
         opcode_base = p2.first.0;
         lengths = p2.first.1;
       };
-      operations = p1.first.operations;
+      operations = p1.first.says;
       directory_format = refl;
       file_format = refl;
       directory_list = p3.first;
@@ -96,7 +78,7 @@ spelled_at version format order bytes n lengths directories files extra old new 
     }
 
 pub parts_read : (version : OlderVersion) (format : Format) (o : OlderHeader) (old m1 m2 m3 new : At)
-    → Reads (NumbersBytes version) o.numbers old m1 → Reads (LengthsBytes o.numbers.opcode_base) o.standard_lengths.now m1 m2
+    → Reads (SinglesBytes (has_max_ops version)) o.numbers old m1 → Reads (LengthsBytes o.numbers.opcode_base) o.standard_lengths.now m1 m2
     → PassesList format directory_pairs o.directories.count o.directories.bytes.now m2 m3
     → PassesList format file_pairs o.files.count o.files.bytes.now m3 new → o.extra.now ≡ new.rest → ReadsParts version format o old new
 parts_read version format o old m1 m2 m3 new r s d f extra_is = grind (arith, common_steps, fields_read, append_assoc)

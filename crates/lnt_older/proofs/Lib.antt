@@ -1,5 +1,4 @@
 pub mod DirectoryLemmas
-pub mod Prefixes
 pub mod FieldLemmas
 pub mod FileZeroLemmas
 pub mod ZeroRowLemmas
@@ -16,7 +15,6 @@ pub mod SameRowsLaws
 pub mod SameUnitLemmas
 pub mod SectionLemmas
 pub mod SizeLemmas
-pub mod SoundLemmas
 pub mod TableLemmas
 pub mod UnitLemmas
 pub mod UpgradeLaws

@@ -18,7 +18,7 @@ use Rattle.lnt_older.specs.Lists.{BeginsWithPath, PassesList}
 use Rattle.lnt_header_bytes.specs.Borrowed.{entry_of}
 use Rattle.lnt_header_bytes.specs.Stepping.{KeepsEntry}
 use Rattle.lnt_header_bytes.specs.TableBytes.{EntryBytes}
-use Rattle.lnt_older.proofs.Prefixes.{prefix_taken}
+use Rattle.lnt_header_bytes.proofs.Prefixes.{prefix_taken}
 use Rattle.std.proofs.lemmas.Grind.{common_steps}
 
 -- the bytes of a text end with a zero byte

@@ -18,13 +18,15 @@ use Rattle.lnt_wire.proofs.ValueLaws.{offset_width}
 use Rattle.lnt_header.specs.Parts.{HeaderParts}
 use Rattle.lnt_header_bytes.specs.HeaderBytes.{CountedBytes}
 use Rattle.lnt_header_bytes.proofs.HeaderLaws.{below}
-use Rattle.lnt_older.specs.OlderBytes.{older_body, OlderBytes, OlderFieldsBytes, version_number, OlderVersion}
-use Rattle.lnt_older.specs.OlderFields.{FieldsOf, number_fields}
+use Rattle.lnt_older.specs.OlderBytes.{has_max_ops, older_body, OlderBytes, OlderFieldsBytes, version_number, OlderVersion}
+use Rattle.lnt_older.specs.OlderFields.{FieldsOf}
+use Rattle.lnt_header_bytes.specs.HeaderFaults.{single_fields}
 use Rattle.lnt_older.specs.OlderUnits.{AnyBytes}
 use Rattle.lnt_older.specs.OlderUnits.AnyParts.{five_parts, older_parts}
 use Rattle.lnt_older.specs.UnitReading.{prefix_body, PastBytes, ReadsPrefix}
 use Rattle.lnt_older.specs.declared.prefix.Prefix.{Prefix}
-use Rattle.lnt_older.proofs.HeaderLemmas.{numbers_in, singles_in}
+use Rattle.lnt_header_bytes.proofs.HeaderFrames.{singles_of}
+use Rattle.lnt_older.proofs.HeaderLemmas.{singles_in}
 use Rattle.std.proofs.lemmas.Grind.{common_steps}
 
 pub to_pairs : (a b c d : List ℕ) → (a ++ (b ++ c)) ++ d ≡ (a ++ b) ++ (c ++ d)
@@ -86,16 +88,16 @@ none_in_frame order reason before from other h (older_parts parts program) x mor
 fields_none : (version : OlderVersion) (h : HeaderParts) (bytes : List ℕ) → OlderFieldsBytes version h bytes
     → NoneSpelled (FieldsOf version h.format h.numbers.order) bytes → ⊥
 fields_none version h bytes p none =
-    let numbers = number_fields version (numbers_in h) in
+    let numbers = single_fields (has_max_ops version) (singles_of h) in
     let lengths = h.numbers.standard_lengths in
     let some : 0 < h.numbers.opcode_base = omega (arith, p.numbers.opcode_base) in
-    none (numbers_in h, (lengths, (h.directories, h.files))) (numbers ++ (lengths ++ (p.directories ++ p.files))) h.extra
+    none (singles_of h, (lengths, (h.directories, h.files))) (numbers ++ (lengths ++ (p.directories ++ p.files))) h.extra
     (record {
       prefix = numbers;
       back = lengths ++ (p.directories ++ p.files);
       first = record {
         spelled = refl;
-        operations = p.operations;
+        says = p.operations;
         line_base = p.numbers.line_base;
         max_ops = p.numbers.max_ops;
         line_range = p.numbers.line_range;

@@ -1,6 +1,6 @@
 -- What is wrong with the bytes in which no unit of version 2 to 5 stands, and with a section of such units, is one.
 use Rattle.std.proofs.Common.{◌≡◌, ◌≢◌, ℕ, ◌+◌, ◌^◌, ◌<◌, ◌≤◌, List, [], ◌∷◌, ◌++◌, length, refl, sym, ap, subst, ◌∙◌, append_assoc, arith}
-use Rattle.std.proofs.Common.{inr, Option, Some, None}
+use Rattle.std.proofs.Common.{Option, Some, None}
 use Rattle.std.proofs.lemmas.List.{append-nil, length-append}
 use Rattle.lnt_wire.specs.Bytes.{IsCode, NoneSpelled}
 use Rattle.lnt_wire.specs.FrameFaults.{InFrame, IsVersionFault}
@@ -18,11 +18,9 @@ use Rattle.lnt_wire.proofs.ValueLaws.{offset_width}
 use Rattle.lnt_header.specs.FieldFaults.{FirstOf}
 use Rattle.lnt_header.specs.FieldFaults.FirstOf.{first, second}
 use Rattle.lnt_header.proofs.FirstFaultLaws.{AreOne, field_fault, first_one, IsHere}
-use Rattle.lnt_header_bytes.specs.HeaderBytes.{CountedBytes}
 use Rattle.lnt_header_bytes.specs.HeaderFaults.{IsCountedFault}
-use Rattle.lnt_header_bytes.specs.HeaderFaults.IsStartFault.{header_length as of_start}
 use Rattle.lnt_header_bytes.proofs.HeaderLaws.{below}
-use Rattle.lnt_header_bytes.proofs.StartReaders.{start_fault}
+use Rattle.lnt_header_bytes.proofs.StartReaders.{counted_fault}
 use Rattle.lnt_header.specs.Joins.{PlacedFrom}
 use Rattle.lnt_csv.proofs.RecordLaws.{same_least}
 use Rattle.lnt_unit.proofs.OneFaultLemmas.{same_fault}
@@ -46,24 +44,6 @@ use Rattle.lnt_older.proofs.PlacedLaws.{placed_at, placed_once}
 use Rattle.lnt_older.proofs.SectionLemmas.{IsSpelled}
 use Rattle.lnt_older.proofs.SizeLemmas.{newer_of}
 use Rattle.lnt_older.proofs.UpgradeLaws.{any_once, five_not_older, some_bytes}
-
--- ---- header_length, as in a unit of version 5, after an address size and a segment selector size
-
-counted_fault : (format : Format) (order : Order) → IsOneFieldFault (CountedBytes format order) (IsCountedFault format order)
-counted_fault format order = record {
-  none = λ reason bytes h counted x more p e.
-      (start_fault format order).none reason (8 ∷ 0 ∷ []) bytes (of_start 8 (inr (inr refl)) refl h) (8, (0, counted)) (8 ∷ 0 ∷ x) more
-      (record {
-        prefix = 8 ∷ [];
-        back = 0 ∷ x;
-        first = (inr (inr refl), refl);
-        second = record { prefix = 0 ∷ []; back = x; first = (refl, refl); second = p; joined = refl };
-        joined = refl;
-      }) (ap (λ (z : List ℕ). 8 ∷ 0 ∷ z) e);
-  one = λ reason other bytes h k.
-      ((start_fault format order).one reason other (8 ∷ 0 ∷ []) (8 ∷ 0 ∷ []) bytes bytes (of_start 8 (inr (inr refl)) refl h)
-      (of_start 8 (inr (inr refl)) refl k) refl).0;
-}
 
 -- ---- what stands after the version
 

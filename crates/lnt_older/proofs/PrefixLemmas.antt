@@ -18,7 +18,7 @@ use Rattle.lnt_older.specs.OlderUnits.{AnyBytes, IsAnyFault, ReadsFive}
 use Rattle.lnt_older.specs.UnitReading.{prefix_body, ReadsPrefix}
 use Rattle.lnt_older.specs.OlderBytes.{version_number, OlderVersion}
 use Rattle.lnt_older.specs.declared.prefix.Prefix.{Prefix}
-use Rattle.lnt_older.proofs.Prefixes.{prefix_taken}
+use Rattle.lnt_header_bytes.proofs.Prefixes.{prefix_taken}
 use Rattle.lnt_older.proofs.NoUnitLemmas.{IsNoOlder, none_in_frame}
 use Rattle.std.proofs.lemmas.Grind.{common_steps}
 

@@ -1,6 +1,5 @@
 -- A unit of version 5 has the rows of the older unit that it was written for.
-use Rattle.std.proofs.Common.{◌≡◌, ◌∙◌, ℕ, suc, List, [], ◌∷◌, ◌++◌, get_or, refl, sym, ap, subst}
-use Rattle.lnt_wire.specs.declared.format.Order.{Order}
+use Rattle.std.proofs.Common.{◌≡◌, ◌∙◌, ℕ, suc, List, [], ◌∷◌, get_or, refl, sym, ap, subst}
 use Rattle.lnt_header.specs.HeaderRules.{AreHeaderNumbers}
 use Rattle.lnt_header.specs.Joins.{Each}
 use Rattle.lnt_header.specs.Parts.{HeaderParts}
@@ -8,14 +7,11 @@ use Rattle.lnt_header.specs.declared.header.Entry.{Entry}
 use Rattle.lnt_header.specs.declared.numbers.NumberParts.{NumberParts}
 use Rattle.lnt_header.specs.declared.op.Op.{Op}
 use Rattle.lnt_header.specs.declared.unit_parts.UnitParts.{UnitParts}
-use Rattle.lnt_header_bytes.specs.HeaderBytes.{HeaderBytesIn}
 use Rattle.lnt_header_bytes.proofs.HeaderLaws.{one_header}
 use Rattle.lnt_ops.specs.OpBytes.{OpBytes}
 use Rattle.lnt_ops.proofs.OpLaws.{same_program}
 use Rattle.lnt_machine.specs.Matrix.{rows, rows_after}
-use Rattle.lnt_machine.specs.declared.row.Row.{Row}
-use Rattle.lnt_unit.specs.UnitBytes.{UnitBytesIn}
-use Rattle.lnt_older.specs.Laws.{AreListedFromOne, AreOlderRows, SameRows, SaysTheSame}
+use Rattle.lnt_older.specs.Laws.{AreListedFromOne, SameRows, SaysTheSame}
 use Rattle.lnt_older.specs.Upgraded.{from_zero, upgraded}
 
 -- where files are listed, file 0 is one more, before them

@@ -15,13 +15,15 @@ use Rattle.lnt_header.specs.declared.header.Pair.{Pair}
 use Rattle.lnt_header_bytes.specs.HeaderFaults.{LengthsBytes}
 use Rattle.lnt_header_bytes.proofs.HeaderLaws.{below, regroup}
 use Rattle.lnt_header_bytes.proofs.ProgramLaws.{length-initial-same}
-use Rattle.lnt_older.specs.OlderBytes.{body_bytes, directory_pairs, file_pairs, ListBytes, ListedBytes, OlderVersion}
-use Rattle.lnt_older.specs.OlderFields.{header_spelling, ListsLie, NumbersBytes, number_fields}
+use Rattle.lnt_older.specs.OlderBytes.{has_max_ops, body_bytes, directory_pairs, file_pairs, ListBytes, ListedBytes, OlderVersion}
+use Rattle.lnt_older.specs.OlderFields.{header_spelling, ListsLie}
+use Rattle.lnt_header_bytes.specs.HeaderFaults.{SinglesBytes, single_fields}
 use Rattle.lnt_older.specs.OlderUnits.{ReadsOlder, unit_header, OlderUnit}
 use Rattle.lnt_older.specs.declared.header.OlderHeader.{OlderHeader}
-use Rattle.lnt_older.proofs.FieldLemmas.{lengths_code, list_code}
+use Rattle.lnt_header_bytes.proofs.HeaderReaders.{lengths_code}
+use Rattle.lnt_older.proofs.FieldLemmas.{list_code}
 use Rattle.lnt_older.proofs.NoUnitLemmas.{one_body, same_version, small_version}
-use Rattle.lnt_older.proofs.SoundLemmas.{numbers_code}
+use Rattle.lnt_header_bytes.proofs.SoundLemmas.{singles_code}
 use Rattle.std.proofs.lemmas.Grind.{common_steps}
 
 -- ---- bodies
@@ -67,7 +69,7 @@ record HasParts (version : OlderVersion) (format : Format) (order : Order) (o : 
   pub directories : List Entry
   pub files : List Entry
   pub lie : ListsLie format order o directories files
-  pub numbers : NumbersBytes version o.numbers (number_fields version o.numbers)
+  pub numbers : SinglesBytes (has_max_ops version) o.numbers (single_fields (has_max_ops version) o.numbers)
   pub lengths : LengthsBytes o.numbers.opcode_base o.standard_lengths.now o.standard_lengths.now
 
 -- Two lists that begin the same bytes are one, and so is what follows them.
@@ -94,8 +96,8 @@ same_listed format order pairs entries others x y r s p q e =
 same_header : (version : OlderVersion) (format : Format) (order : Order) (o p : OlderHeader) → HasParts version format order o
     → HasParts version format order p → header_spelling version o ≡ header_spelling version p → SameHeader o p
 same_header version format order o p a b e =
-    let n = number_fields version o.numbers in
-    let m = number_fields version p.numbers in
+    let n = single_fields (has_max_ops version) o.numbers in
+    let m = single_fields (has_max_ops version) p.numbers in
     let l = o.standard_lengths.now in
     let k = p.standard_lengths.now in
     let d = o.directories.bytes.now ++ 0 ∷ [] in
@@ -105,7 +107,7 @@ same_header version format order o p a b e =
     let x = o.extra.now in
     let y = p.extra.now in
     let all : n ++ (l ++ (d ++ (f ++ x))) ≡ m ++ (k ++ (c ++ (g ++ y))) = sym (regroup n l d f x) ∙ e ∙ regroup m k c g y in
-    let numbers = (numbers_code version).one o.numbers p.numbers n m (l ++ (d ++ (f ++ x))) (k ++ (c ++ (g ++ y))) a.numbers b.numbers
+    let numbers = (singles_code (has_max_ops version)).one o.numbers p.numbers n m (l ++ (d ++ (f ++ x))) (k ++ (c ++ (g ++ y))) a.numbers b.numbers
     all in
     let past = same_rest n m (l ++ (d ++ (f ++ x))) (k ++ (c ++ (g ++ y))) numbers.1 all in
     let base : o.numbers.opcode_base ≡ p.numbers.opcode_base = ap (λ q. q.opcode_base) numbers.0 in
@@ -173,7 +175,7 @@ joined_here unit size at next bytes is_size r whole =
         lie = r.lie;
         numbers = record {
           spelled = refl;
-          operations = rw versions.0 q.counted.operations;
+          says = rw versions.0 q.counted.operations;
           line_base = q.counted.numbers.line_base;
           max_ops = q.counted.numbers.max_ops;
           line_range = q.counted.numbers.line_range;

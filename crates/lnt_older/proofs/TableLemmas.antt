@@ -20,7 +20,7 @@ use Rattle.lnt_header_bytes.proofs.TableLaws.{entry_code}
 use Rattle.lnt_older.specs.Lists.{BeginsWithPath}
 use Rattle.lnt_older.specs.OlderBytes.{BeginsEntry, directory_pairs, file_pairs, ListedBytes}
 use Rattle.lnt_older.specs.Upgraded.{CountedTable, HasFiles, IsCountFromZero, IsFileZero}
-use Rattle.lnt_older.proofs.Prefixes.{prefix_taken}
+use Rattle.lnt_header_bytes.proofs.Prefixes.{prefix_taken}
 use Rattle.lnt_older.proofs.ListLemmas.{path_first, zero_begins}
 use Rattle.std.proofs.lemmas.Grind.{common_steps}
 

@@ -1,5 +1,5 @@
 -- Units that are written anew in version 5.
-use Rattle.std.proofs.Common.{◌≡◌, ℕ, ◌+◌, ◌*◌, ◌≤◌, List, [], ◌∷◌, ◌++◌, length, take, refl, sym, append_assoc, arith, append-nil}
+use Rattle.std.proofs.Common.{◌≡◌, ℕ, ◌+◌, ◌*◌, ◌≤◌, List, [], ◌∷◌, ◌++◌, length, take, refl, sym, append_assoc, arith, append-nil, true}
 use Rattle.lnt_wire.specs.Bytes.{Appends, Extends}
 use Rattle.lnt_wire.specs.FormBytes.{HasNoZero}
 use Rattle.lnt_wire.specs.FrameBytes.{frame_bytes, LengthFits}
@@ -12,11 +12,10 @@ use Rattle.lnt_header_bytes.specs.Borrowed.{entry_of}
 use Rattle.lnt_header_bytes.specs.TableBytes.{EntryBytes}
 use Rattle.lnt_header_bytes.specs.HeaderPuts.{AddsAround, around}
 use Rattle.lnt_older.specs.OlderBytes.{directory_pairs, file_pairs}
-use Rattle.lnt_older.specs.OlderFields.{number_fields}
+use Rattle.lnt_header_bytes.specs.HeaderFaults.{single_fields}
 use Rattle.lnt_older.specs.OlderUnits.{IsOlderUnit, OlderUnit}
 use Rattle.lnt_older.specs.Upgraded.{CountedTable, directory_head, file_head, from_zero, AddsFiles, AddsTable, AddsUpgraded}
 use Rattle.lnt_older.specs.Upgraded.{AreUpgradedFields, HasFiles, IsCountFromZero, IsFileZero, IsTooLong}
-use Rattle.lnt_older.specs.declared.version.OlderVersion.TheVariants.{Four}
 use Rattle.lnt_older.proofs.HeaderLemmas.{moved_numbers}
 use Rattle.lnt_older.proofs.TableLemmas.{directory_spelled, each_append, each_listed, four_pairs, listed_few, one_pair, table_spelled}
 use Rattle.std.proofs.lemmas.Grind.{common_steps}
@@ -36,13 +35,13 @@ files_added count all first listed o0 o1 o2 o3 o4 a count_is s c d = grind (arit
 
 pub fields_upgraded : (unit : OlderUnit) (directory zero_bytes o0 o1 o2 o3 o4 : List ℕ) → HasNoZero directory → IsOlderUnit unit
     → IsFileZero unit.format unit.order unit.header.files.count unit.header.files.bytes.now zero_bytes → o0 ≡ []
-    → o1 ≡ (o0 ++ number_fields Four unit.header.numbers) ++ unit.header.standard_lengths.now
+    → o1 ≡ (o0 ++ single_fields true unit.header.numbers) ++ unit.header.standard_lengths.now
     → AddsTable directory_head (unit.header.directories.count + 1) ((directory ++ 0 ∷ []) ++ unit.header.directories.bytes.now) o1 o2
     → AddsFiles unit.header.files.count (zero_bytes ++ unit.header.files.bytes.now) o2 o3 → o4 ≡ o3 ++ unit.header.extra.now
     → AreUpgradedFields unit directory o4
 fields_upgraded unit directory zero_bytes o0 o1 o2 o3 o4 none is zero_is begun singles d f last size is_size ds fs lie =
     let o = unit.header in
-    let single = number_fields Four o.numbers ++ o.standard_lengths.now in
+    let single = single_fields true o.numbers ++ o.standard_lengths.now in
     let directory_entry = entry_of (Text directory ∷ []) in
     let directory_bytes = (directory ++ 0 ∷ []) ++ o.directories.bytes.now in
     let file_bytes = zero_bytes ++ o.files.bytes.now in

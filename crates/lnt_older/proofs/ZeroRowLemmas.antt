@@ -1,13 +1,12 @@
 -- The rows of an older program that name file 0, by the steps of a walk over its rows.
 use Rattle.std.proofs.Common.{◌≡◌, ℕ, suc, ◌+◌, ◌<◌, ◌≤◌, ◌⊎◌, inl, inr, true}
 use Rattle.std.proofs.Common.{false, List, [], ◌∷◌, ◌++◌, length, refl, sym, ap, subst, ◌∙◌}
-use Rattle.std.proofs.Common.{append_assoc, arith, drop, get_or, Option, Some, None, Bool, Result, Ok, Err, is_some, not, true≢false, ◌-◌}
+use Rattle.std.proofs.Common.{append_assoc, arith, drop, get_or, Option, Some, None, Bool, Ok, Err, is_some, not, true≢false, ◌-◌}
 use Rattle.std.specs.List.{cons_option}
 use Rattle.std.proofs.lemmas.Bool.{cases_lt}
 use Rattle.std.proofs.lemmas.List.{length-append}
 use Rattle.lnt_wire.proofs.LengthLaws.{same_rest}
 use Rattle.lnt_header.specs.HeaderRules.{AreHeaderNumbers}
-use Rattle.lnt_header.specs.Joins.{Each}
 use Rattle.lnt_header.specs.declared.numbers.NumberParts.{NumberParts}
 use Rattle.lnt_header.specs.declared.op.Op.{Op}
 use Rattle.lnt_header.specs.declared.op.OpView.{OpView}

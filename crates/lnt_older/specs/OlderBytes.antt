@@ -1,6 +1,6 @@
 -- The bytes of a unit of version 2, 3 or 4, around its program (DWARF 2, 3 and 4, section 6.2.4). Such a unit says no address size,
 -- which its caller knows. Its directories and files are listed from number 1 on; its compilation directory, number 0, isn't there.
-use Rattle.std.specs.Prelude.{◌≡◌, ℕ, ◌<◌, List, [], ◌∷◌, ◌++◌, length}
+use Rattle.std.specs.Prelude.{◌≡◌, ℕ, ◌<◌, List, [], ◌∷◌, ◌++◌, length, Bool, true, false}
 use Rattle.std.specs.Int.{w8, cast_unsigned}
 use Rattle.lnt_wire.specs.Bytes.{Exactly, ◌⨾◌}
 use Rattle.lnt_wire.specs.FrameBytes.{frame_bytes, LengthFits}
@@ -14,6 +14,7 @@ use Rattle.lnt_header.specs.declared.header.Entry.{Entry}
 use Rattle.lnt_header.specs.Parts.{HeaderParts}
 use Rattle.lnt_header.specs.declared.numbers.NumberParts.{NumberParts}
 use Rattle.lnt_header.specs.declared.header.Pair.{Pair}
+use Rattle.lnt_header_bytes.specs.HeaderFaults.{SaysMaxOps}
 use Rattle.lnt_header_bytes.specs.TableBytes.{EntryBytes}
 pub use Rattle.lnt_older.specs.declared.version.OlderVersion.{OlderVersion}
 use Rattle.lnt_older.specs.declared.version.OlderVersion.TheVariants.{Two, Three, Four}
@@ -53,16 +54,20 @@ ListBytes format order pairs entries bytes = (Each (ListedBytes format order pai
 
 -- ---- units
 
--- the fields of one byte; maximum_operations_per_instruction is among them from version 4 on
+-- from version 4 on a header has maximum_operations_per_instruction
+abbrev pub has_max_ops : OlderVersion → Bool
+has_max_ops Four = true
+has_max_ops _ = false
+
+-- the fields of one byte
 abbrev pub older_bytes : OlderVersion → NumberParts → List ℕ
 older_bytes Four n = single_bytes n
 older_bytes _ n =
     n.minimum_instruction_length ∷ n.default_is_stmt ∷ cast_unsigned w8 n.line_base ∷ n.line_range ∷ n.opcode_base ∷ n.standard_lengths
 
--- where it isn't among them, it is 1
+-- where it has none, that number is 1
 abbrev pub SaysOperations : OlderVersion → ℕ → Type 0
-SaysOperations Four max_ops = Unit {0}
-SaysOperations _ max_ops = max_ops ≡ 1
+SaysOperations version = SaysMaxOps (has_max_ops version)
 
 -- The bytes that header_length counts: fields of one byte, the two lists, and what else stands before the program.
 pub record OlderFieldsBytes (version : OlderVersion) (h : HeaderParts) (bytes : List ℕ) : Type 0 where

@@ -1,11 +1,11 @@
 -- What the prefix of a unit gives, up to its version. No public contract speaks of it.
-use Rattle.std.specs.Prelude.{◌≡◌, ℕ, List, [], ◌∷◌, Option, Some, ◌≢◌, ◌+◌, ◌^◌, ◌<◌, ◌++◌, length}
+use Rattle.std.specs.Prelude.{◌≡◌, ℕ, List, [], ◌≢◌, ◌+◌, ◌^◌, ◌<◌, ◌++◌, length}
 use Rattle.lnt_wire.specs.Reading.{At, Reads, Refuses}
 use Rattle.lnt_wire.specs.declared.fault.Reason.{Reason}
-use Rattle.lnt_wire.specs.declared.fault.Reason.TheVariants.{Truncated, VersionNotFive}
+use Rattle.lnt_wire.specs.declared.fault.Reason.TheVariants.{VersionNotFive}
 use Rattle.lnt_wire.specs.declared.format.Format.{Format}
 use Rattle.lnt_header.specs.declared.header.Entry.{Entry}
-use Rattle.lnt_older.specs.OlderFields.{FieldsOf, header_spelling, ListsLie, MayBe, IsFieldsFault, IsReadHeader}
+use Rattle.lnt_older.specs.OlderFields.{FieldsOf, header_spelling, ListsLie, IsFieldsFault, IsReadHeader}
 use Rattle.lnt_older.specs.declared.header.OlderHeader.{OlderHeader}
 use Rattle.lnt_wire.specs.FrameBytes.{frame_bytes, initial_length, LengthFits}
 use Rattle.lnt_wire.specs.Numbers.{number_bytes, offset_size}
@@ -21,15 +21,6 @@ use Rattle.lnt_older.specs.declared.unit.AnyUnit.TheVariants as units
 use Rattle.lnt_older.specs.declared.unit.OlderUnit.{OlderUnit}
 
 -- ---- what the read of the fields of an older header gives. No public contract speaks of it.
-
--- a byte that the field may hold
-abbrev pub ByteOf : Option Reason → ℕ → List ℕ → Type 0
-ByteOf zero_reason byte bytes = MayBe zero_reason byte × (bytes ≡ byte ∷ [])
-
--- It isn't there, or is 0 and may not be.
-pub data IsByteFault (zero_reason : Option Reason) (reason : Reason) (bytes : List ℕ) : Type 0 where
-  no_byte : reason ≡ Truncated → bytes ≡ [] → IsByteFault zero_reason reason bytes
-  is_zero : (more : List ℕ) → zero_reason ≡ Some reason → bytes ≡ 0 ∷ more → IsByteFault zero_reason reason bytes
 
 -- The read gave the parts of a header, moved past the fields that spell them, and left the last bytes. All bytes are those of its parts.
 pub record ReadsParts (version : OlderVersion) (format : Format) (o : OlderHeader) (old new : At) : Type 0 where

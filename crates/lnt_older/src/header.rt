@@ -6,9 +6,8 @@ ghost use Rattle.lnt_older.specs.UnitReading.{ReadsParts};
 ghost use Rattle.lnt_older.specs.OlderFields.{FieldsOf, IsFieldsFault, IsReadHeader};
 
 use crate::lists::{DIRECTORY_PAIRS, FILE_PAIRS, pass_listed};
-use crate::numbers::{OlderNumbers, read_numbers};
 use crate::version::OlderVersion;
-use lnt_header_bytes::{EntriesInPlace, read_lengths};
+use lnt_header_bytes::{EntriesInPlace, Singles, read_lengths, read_singles};
 use lnt_wire::{Cursor, Fault, Format, Order};
 
 /// The header of an older unit, but for what stands before the bytes that `header_length` counts: its numbers, and where its lists
@@ -16,7 +15,7 @@ use lnt_wire::{Cursor, Fault, Format, Order};
 #[derive(Clone, Copy, Debug)]
 pub struct OlderHeader<'a> {
     /// The numbers.
-    pub numbers: OlderNumbers,
+    pub numbers: Singles,
     /// `standard_opcode_lengths`: how many operands each opcode from 1 to `opcode_base` - 1 has.
     pub standard_lengths: &'a [u8],
     /// The directories, numbered from 1 on. Directory 0 isn't there.
@@ -60,7 +59,7 @@ fn read_parts<'a>(
     ensures err { IfErr result (λ fault. Refuses (IsFieldsFault version format cursor.old.order)
         (FieldsOf version format cursor.old.order) cursor.old fault) }
 {
-    let numbers = read_numbers(cursor, version)?;
+    let numbers = read_singles(cursor, version.has_max_ops())?;
     let standard_lengths = read_lengths(cursor, numbers.opcode_base)?;
     let directories = pass_listed(cursor, format, &DIRECTORY_PAIRS)?;
     let files = pass_listed(cursor, format, &FILE_PAIRS)?;

@@ -6,10 +6,10 @@ ghost use Rattle.lnt_older.specs.OlderUnits.{IsOlderUnit};
 ghost use Rattle.lnt_older.specs.Sections.{HasUnits};
 ghost use Rattle.lnt_older.specs.Upgradable.{IsRowFault, IsUnitNext};
 
-use crate::header::OlderHeader;
 use crate::section::UpgradeFault;
 use crate::unit::{AnyUnit, OlderUnit, take_any_unit};
-use lnt_header::{HeaderNumbers, NumberParts};
+use lnt_header::HeaderNumbers;
+use lnt_header_bytes::numbers_of;
 use lnt_machine::Rows;
 use lnt_ops::Ops;
 use lnt_wire::{Cursor, Order, copied};
@@ -88,22 +88,10 @@ fn header_numbers(
     requires unit { IsOlderUnit unit.now }
     ensures { IfOk result (λ numbers. numbers ≡ numbers_of unit.now address_size) }
 {
-    let OlderHeader {
-        numbers,
-        standard_lengths,
-        ..
-    } = unit.header;
-    Ok(HeaderNumbers::of(NumberParts {
-        order: unit.order,
-        address_size,
-        minimum_instruction_length: numbers.minimum_instruction_length,
-        max_ops: numbers.max_ops,
-        default_is_stmt: numbers.default_is_stmt,
-        line_base: numbers.line_base,
-        line_range: numbers.line_range,
-        opcode_base: numbers.opcode_base,
-        standard_lengths: copied(alloc, standard_lengths)?,
-    }))
+    let header = &unit.header;
+    let lengths = copied(alloc, header.standard_lengths)?;
+    let numbers = numbers_of(header.numbers, lengths, unit.order, address_size);
+    Ok(HeaderNumbers::of(numbers))
 }
 
 // The first row of a program that is no end row and names file 0.

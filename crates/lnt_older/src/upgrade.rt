@@ -1,13 +1,12 @@
 //! Older units, written anew in version 5 (DWARF 5, section 6.2.4).
-ghost use Rattle.std.specs.Prelude.{◌≡◌, ◌+◌, ◌*◌, ◌<◌, ◌≤◌, ◌^◌, ◌∷◌, ◌++◌, [], length, IfErr, IfOk, OnErr, OnOk};
+ghost use Rattle.std.specs.Prelude.{◌≡◌, ◌+◌, ◌*◌, ◌<◌, ◌≤◌, ◌^◌, ◌∷◌, ◌++◌, [], length, true, IfErr, IfOk, OnErr, OnOk};
 ghost use Rattle.lnt_wire.specs.Bytes.{Extends};
 ghost use Rattle.lnt_wire.specs.FormBytes.{HasNoZero};
 ghost use Rattle.lnt_header.specs.HeaderRules.{IsAddressSize};
-ghost use Rattle.lnt_older.specs.OlderFields.{number_fields};
+ghost use Rattle.lnt_header_bytes.specs.HeaderFaults.{single_fields};
 ghost use Rattle.lnt_older.specs.OlderUnits.{IsOlderUnit};
 ghost use Rattle.lnt_older.specs.Upgraded.{directory_head, AddsFiles, AddsTable, AddsUpgraded, AreUpgradedFields, HasFiles};
 ghost use Rattle.lnt_older.specs.Upgraded.{IsCountFromZero, IsFileZero, IsTooLong};
-ghost use Rattle.lnt_older.specs.declared.version.OlderVersion.TheVariants.{Four};
 
 use crate::header::OlderHeader;
 use crate::lists::FILE_PAIRS;
@@ -79,7 +78,7 @@ fn upgraded_fields(
 // Adds the fields of one byte.
 fn add_numbers(out: &mut Vec<u8>, header: &OlderHeader<'_>) -> Result<(), AllocError>
     ensures { OnOk result (out.new.items
-        ≡ (out.old.items ++ number_fields Four header.now.numbers) ++ header.now.standard_lengths.now) }
+        ≡ (out.old.items ++ single_fields true header.now.numbers) ++ header.now.standard_lengths.now) }
 {
     add_both(
         out,

@@ -1,6 +1,6 @@
 //! The versions before 5.
 ghost use Rattle.std.specs.Prelude.{◌≡◌, ◌≢◌, MatchOption};
-ghost use Rattle.lnt_older.specs.OlderBytes.{version_number, OlderVersion};
+ghost use Rattle.lnt_older.specs.OlderBytes.{has_max_ops, version_number, OlderVersion};
 
 /// The version of an older unit.
 #[derive(Clone, Copy, Debug, PartialEq, Eq)]
@@ -25,5 +25,12 @@ impl OlderVersion {
             4 => Some(OlderVersion::Four),
             _ => None,
         }
+    }
+
+    // Whether a header has `maximum_operations_per_instruction`.
+    pub(crate) fn has_max_ops(self) -> bool
+        ensures { result ≡ has_max_ops self }
+    {
+        matches!(self, OlderVersion::Four)
     }
 }

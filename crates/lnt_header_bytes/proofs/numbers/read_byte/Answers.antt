@@ -1,6 +1,6 @@
 use Rattle.std.proofs.Common.{refl}
-use Rattle.lnt_older.proofs.SoundLemmas.{byte_zero}
-use Rattle.lnt_older.proofs.numbers.read_byte.Goals as goal
+use Rattle.lnt_header_bytes.proofs.SoundLemmas.{byte_zero}
+use Rattle.lnt_header_bytes.proofs.numbers.read_byte.Goals as goal
 
 pub returns-in-Some-clause-err : goal.returns-in-Some-clause-err
 returns-in-Some-clause-err c =

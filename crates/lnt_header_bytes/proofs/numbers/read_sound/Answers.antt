@@ -1,6 +1,6 @@
 use Rattle.std.proofs.lemmas.Result.{err_from_is_err_and}
-use Rattle.lnt_older.proofs.SoundLemmas.{byte_missing}
-use Rattle.lnt_older.proofs.numbers.read_sound.Goals as goal
+use Rattle.lnt_header_bytes.proofs.SoundLemmas.{byte_missing}
+use Rattle.lnt_header_bytes.proofs.numbers.read_sound.Goals as goal
 
 pub returns-in_err-read_byte-clause-err : goal.returns-in_err-read_byte-clause-err
 returns-in_err-read_byte-clause-err c =

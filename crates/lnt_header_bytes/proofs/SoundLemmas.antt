@@ -1,6 +1,6 @@
--- The numbers of an older header: fields of one byte that are read one after another, and the first that isn't there.
+-- The numbers of a header: fields of one byte that are read one after another, and the first that isn't there.
 use Rattle.std.proofs.Common.{◌≡◌, ◌≢◌, ℕ, ◌+◌, ◌-◌, ◌<◌, ◌≤◌, List, [], ◌∷◌, ◌++◌, length, take, drop, get_or, refl, sym, ap, ◌∙◌}
-use Rattle.std.proofs.Common.{append_assoc, add-zero, arith, Option, Some, None, ℤ, FitsSigned}
+use Rattle.std.proofs.Common.{append_assoc, add-zero, arith, Option, Some, None, ℤ, FitsSigned, Bool}
 use Rattle.std.proofs.lemmas.List.{length-append, nil_from_length, take_more, drop_more, take-append-drop, take_all}
 use Rattle.lnt_wire.specs.Reading.{At, Reads, RefusesField, Refuses, IsCutShort}
 use Rattle.lnt_wire.specs.Bytes.{NoneSpelled, IsCode}
@@ -16,17 +16,17 @@ use Rattle.lnt_header.proofs.ByteLaws.{one_digit}
 use Rattle.lnt_header.proofs.FirstFaultLaws.{fault_as, fault_of_part, field_fault, first_of, IsHere, IsOneFault}
 use Rattle.lnt_header.proofs.ReaderLaws.{reads_map, refuses_map}
 use Rattle.lnt_header_bytes.proofs.FaultLaws.{field_so, so_after}
-use Rattle.lnt_older.specs.UnitReading.{ByteOf, IsByteFault}
-use Rattle.lnt_older.specs.UnitReading.IsByteFault.{no_byte, is_zero}
-use Rattle.lnt_older.specs.OlderFields.{AreFieldBytes, IsSoundFault, MayBe, SoundBytes, NumbersBytes, number_fields, zero_reasons}
-use Rattle.lnt_older.specs.OlderFields.IsSoundFault.{missing, zero_byte}
-use Rattle.lnt_older.proofs.Prefixes.{prefix_taken}
+use Rattle.lnt_header_bytes.specs.Stepping.{ByteOf, IsByteFault}
+use Rattle.lnt_header_bytes.specs.Stepping.IsByteFault.{no_byte, is_zero}
+use Rattle.lnt_header_bytes.specs.HeaderFaults.{AreFieldBytes, IsSoundFault, MayBe, SoundBytes, SinglesBytes, IsSinglesFault, single_fields}
+use Rattle.lnt_header_bytes.specs.HeaderFaults.{zero_reasons}
+use Rattle.lnt_header_bytes.specs.HeaderFaults.IsSoundFault.{missing, zero_byte}
+use Rattle.lnt_header_bytes.proofs.Prefixes.{prefix_taken}
 use Rattle.std.proofs.lemmas.Grind.{common_steps}
 use Rattle.std.specs.Int.{w8, cast_unsigned, cast_signed}
 use Rattle.std.proofs.lemmas.Int.{to_z-of_z}
 use Rattle.lnt_wire.proofs.LengthLaws.{same_prefix}
-use Rattle.lnt_older.specs.declared.numbers.OlderNumbers.{OlderNumbers}
-use Rattle.lnt_older.specs.declared.version.OlderVersion.{OlderVersion}
+use Rattle.lnt_header_bytes.specs.declared.numbers.Singles.{Singles}
 
 -- ---- one byte
 
@@ -179,39 +179,40 @@ pub ruleset sound_walk = (none_so_far, next_so_far, all_so_far, byte_missing)
 
 -- ---- the numbers of a header
 
-sound_fields : (version : OlderVersion) (n : OlderNumbers) (x : List ℕ) → NumbersBytes version n x
-    → SoundBytes (zero_reasons version) (number_fields version n) x
-sound_fields version n x p = grind (arith, common_steps)
+sound_fields : (has_max_ops : Bool) (n : Singles) (x : List ℕ) → SinglesBytes has_max_ops n x
+    → SoundBytes (zero_reasons has_max_ops) (single_fields has_max_ops n) x
+sound_fields has_max_ops n x p = grind (arith, common_steps)
 
-pub numbers_fault : (version : OlderVersion) → IsOneFault (NumbersBytes version) (IsSoundFault (zero_reasons version))
-numbers_fault version = fault_of_part (SoundBytes (zero_reasons version)) (NumbersBytes version) (IsSoundFault (zero_reasons version))
-    (number_fields version) (sound_fields version) (sound_fault (zero_reasons version))
+pub singles_fault : (has_max_ops : Bool) → IsOneFault (SinglesBytes has_max_ops) (IsSinglesFault has_max_ops)
+singles_fault has_max_ops = fault_of_part (SoundBytes (zero_reasons has_max_ops)) (SinglesBytes has_max_ops) (IsSinglesFault has_max_ops)
+    (single_fields has_max_ops) (sound_fields has_max_ops) (sound_fault (zero_reasons has_max_ops))
 
-pub numbers_refused : (version : OlderVersion) (old : At) (fault : Fault)
-    → Refuses (IsSoundFault (zero_reasons version)) (SoundBytes (zero_reasons version)) old fault
-    → Refuses (IsSoundFault (zero_reasons version)) (NumbersBytes version) old fault
-numbers_refused version old fault r =
-    refuses_map (SoundBytes (zero_reasons version)) (NumbersBytes version) (number_fields version) old fault (sound_fields version) r
+pub singles_refused : (has_max_ops : Bool) (old : At) (fault : Fault)
+    → Refuses (IsSinglesFault has_max_ops) (SoundBytes (zero_reasons has_max_ops)) old fault
+    → Refuses (IsSinglesFault has_max_ops) (SinglesBytes has_max_ops) old fault
+singles_refused has_max_ops old fault r =
+    refuses_map (SoundBytes (zero_reasons has_max_ops)) (SinglesBytes has_max_ops) (single_fields has_max_ops) old fault
+    (sound_fields has_max_ops) r
 
-pub numbers_read : (version : OlderVersion) (bytes : List ℕ) (n : OlderNumbers) (old new : At) → NumbersBytes version n bytes
-    → Reads (SoundBytes (zero_reasons version)) bytes old new → Reads (NumbersBytes version) n old new
-numbers_read version bytes n old new p r = grind (arith, common_steps, reads_map)
+pub singles_read : (has_max_ops : Bool) (bytes : List ℕ) (n : Singles) (old new : At) → SinglesBytes has_max_ops n bytes
+    → Reads (SoundBytes (zero_reasons has_max_ops)) bytes old new → Reads (SinglesBytes has_max_ops) n old new
+singles_read has_max_ops bytes n old new p r = grind (arith, common_steps, reads_map)
 
 -- ---- one value for its bytes
 
 same_signed_byte : (z z' : ℤ) → FitsSigned w8 z → FitsSigned w8 z' → cast_unsigned w8 z ≡ cast_unsigned w8 z' → z ≡ z'
 same_signed_byte z z' p q e = sym (to_z-of_z w8 z p) ∙ ap (cast_signed w8) e ∙ to_z-of_z w8 z' q
 
-same_numbers : (n m : OlderNumbers) → n.minimum_instruction_length ≡ m.minimum_instruction_length → n.max_ops ≡ m.max_ops
+same_singles : (n m : Singles) → n.minimum_instruction_length ≡ m.minimum_instruction_length → n.max_ops ≡ m.max_ops
     → n.default_is_stmt ≡ m.default_is_stmt → n.line_base ≡ m.line_base → n.line_range ≡ m.line_range → n.opcode_base ≡ m.opcode_base
     → n ≡ m
-same_numbers n m a b c d f g = grind (arith, common_steps)
+same_singles n m a b c d f g = grind (arith, common_steps)
 
-same_of : (version : OlderVersion) (n m : OlderNumbers) (x : List ℕ) → NumbersBytes version n x → NumbersBytes version m x → n ≡ m
-same_of version n m x p q = grind (arith, common_steps, same_numbers, same_signed_byte)
+same_of : (has_max_ops : Bool) (n m : Singles) (x : List ℕ) → SinglesBytes has_max_ops n x → SinglesBytes has_max_ops m x → n ≡ m
+same_of has_max_ops n m x p q = grind (arith, common_steps, same_singles, same_signed_byte)
 
-number_count : (version : OlderVersion) (n m : OlderNumbers) → length (number_fields version n) ≡ length (number_fields version m)
-number_count version n m = grind (arith, common_steps)
+single_count : (has_max_ops : Bool) (n m : Singles) → length (single_fields has_max_ops n) ≡ length (single_fields has_max_ops m)
+single_count has_max_ops n m = grind (arith, common_steps)
 
-pub numbers_code : (version : OlderVersion) → IsCode (NumbersBytes version)
-numbers_code version = grind (arith, common_steps, same_prefix, number_count, same_of)
+pub singles_code : (has_max_ops : Bool) → IsCode (SinglesBytes has_max_ops)
+singles_code has_max_ops = grind (arith, common_steps, same_prefix, single_count, same_of)
