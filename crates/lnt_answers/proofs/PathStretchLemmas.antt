@@ -6,15 +6,15 @@ use Rattle.lnt_sequences.specs.Copies.{IsAnyAnswer}
 use Rattle.lnt_sequences.specs.Sequences.{Selection}
 use Rattle.lnt_lines.specs.Indexed.{Indexed}
 use Rattle.lnt_records.specs.Faults.{IsUnnumbered}
-use Rattle.lnt_compare.specs.declared.by_path.held.HeldSpan.{HeldSpan}
-use Rattle.lnt_compare.specs.declared.by_path.stretches.DifferencesByPath.{DifferencesByPath}
-use Rattle.lnt_records.specs.declared.by_path.version.PathVersion.{PathVersion}
+use Rattle.lnt_compare.specs.declared.path_tables.held.HeldSpan.{HeldSpan}
+use Rattle.lnt_compare.specs.declared.path_tables.path_differences.DifferencesByPath.{DifferencesByPath}
+use Rattle.lnt_records.specs.declared.path_records.version.PathVersion.{PathVersion}
 use Rattle.lnt_compare.specs.Held.{held_span}
 use Rattle.lnt_records.specs.PathSpans.{PathAnswer, StandInOrder, path_answer, path_span_answer}
 use Rattle.lnt_records.specs.PathTables.{IsPathTableOf}
 use Rattle.lnt_compare.specs.Differing.{HasFoundStretchesByPath}
 use Rattle.lnt_table.specs.Headline.{indexed_path, told_path}
-use Rattle.lnt_answers.specs.Stretches.{IsSoByPath, OfAnswers}
+use Rattle.lnt_answers.specs.PrintedStretches.{IsSoByPath, OfAnswers}
 
 -- It holds of whatever two answers the differences are.
 abbrev pub ForPathDifferences : {S : Type 0} → (S → List Span → Type 0) → (ℕ → ℕ → List ℕ) → DifferencesByPath S

@@ -4,7 +4,7 @@ use Rattle.lnt_io.specs.Prefixes.{AppendsPrefix}
 use Rattle.lnt_io.proofs.PrefixLaws.{appends_known, prefix_none, prefix_since}
 use Rattle.lnt_io.specs.declared.status.Status.TheVariants.{Done, No}
 use Rattle.lnt_spans.specs.declared.position.Position.{Position}
-use Rattle.lnt_records.specs.declared.by_path.version.PathVersion.{PathVersion}
+use Rattle.lnt_records.specs.declared.path_records.version.PathVersion.{PathVersion}
 use Rattle.lnt_records.specs.PathSpans.{PathAnswer}
 use Rattle.lnt_compare.specs.Canonical.{HasOperationIndex}
 use Rattle.lnt_table.specs.Written.{BeginsPaths}

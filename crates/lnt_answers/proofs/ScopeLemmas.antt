@@ -22,8 +22,8 @@ use Rattle.lnt_table.specs.declared.within.Coverage.{Coverage}
 use Rattle.lnt_table.specs.declared.within.Scope.{Scope}
 use Rattle.lnt_table.specs.declared.within.Scope.TheVariants.{All, Answered}
 use Rattle.lnt_answers.specs.declared.report.Report.{Report}
-use Rattle.lnt_answers.specs.Stretches.{AreAllIn, AreFirstPrinted, AreStretchesPrinted, EndsIn, HaveEnds, IsEndTold, ToldStretch}
-use Rattle.lnt_answers.specs.Stretches.{answer_if_none, lines_or, stretches_status, told_with}
+use Rattle.lnt_answers.specs.PrintedStretches.{AreAllIn, AreFirstPrinted, AreStretchesPrinted, EndsIn, HaveEnds, IsEndTold, ToldStretch}
+use Rattle.lnt_answers.specs.PrintedStretches.{answer_if_none, lines_or, stretches_status, told_with}
 use Rattle.lnt_answers.specs.Stepping.{AreBegun, AreEndsTold, ArePrinted, ToldDifference, answer_of, coverage_of, differences_of}
 use Rattle.lnt_answers.specs.Stepping.{end_status, end_text, if_none, told_in}
 use Rattle.lnt_answers.specs.Verdicts.{checked_line, checked_status}

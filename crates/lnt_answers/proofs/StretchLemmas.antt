@@ -5,13 +5,13 @@ use Rattle.std.proofs.lemmas.List.{map-append}
 use Rattle.std.proofs.lemmas.Option.{IfSome_then}
 use Rattle.lnt_io.specs.Prefixes.{AppendsPrefix, HasBegun}
 use Rattle.lnt_io.proofs.PrefixLaws.{appends_known}
-use Rattle.lnt_answers.specs.declared.stretches.Stretches.TheVariants.{Faulty, FaultyByPath, Printed, PrintedByPath}
+use Rattle.lnt_answers.specs.declared.printed_stretches.Stretches.TheVariants.{Faulty, FaultyByPath, Printed, PrintedByPath}
 use Rattle.lnt_spans.specs.declared.answer.Answer.{Answer}
 use Rattle.lnt_spans.specs.declared.difference.Difference.{Difference}
 use Rattle.lnt_spans.specs.declared.listed.SpanList.{SpanList}
 use Rattle.lnt_spans.specs.declared.position.Position.{Position}
 use Rattle.lnt_spans.specs.declared.span.Span.{Span}
-use Rattle.lnt_spans.specs.declared.stretches.Differences.{Differences}
+use Rattle.lnt_spans.specs.declared.differences.Differences.{Differences}
 use Rattle.lnt_spans.specs.Stretching.{HasFoundStretches}
 use Rattle.lnt_spans.specs.AnyStretches.{AreAllStretches}
 use Rattle.lnt_spans.specs.Differences.{stretch_of}
@@ -39,11 +39,11 @@ use Rattle.lnt_table.specs.Verdicts.{no_of_fault}
 use Rattle.lnt_answers.proofs.ScopeLemmas.{HasMore}
 use Rattle.lnt_answers.proofs.PathStretchLemmas.{ForPathDifferences, for_path_units, HasStarted}
 use Rattle.lnt_answers.specs.declared.report.Report.{Report}
-use Rattle.lnt_answers.specs.Stretches.{AreStretchesBegun, AreStretchesPrinted, IsFaultByPath}
-use Rattle.lnt_answers.specs.Stretches.{IsSoByPath, IsSoOfRows, OfAnswers, OfThese, path_stretch_line, stretch_line}
-use Rattle.lnt_compare.specs.declared.by_path.held.HeldSpan.{HeldSpan}
-use Rattle.lnt_compare.specs.declared.by_path.stretches.DifferencesByPath.{DifferencesByPath}
-use Rattle.lnt_records.specs.declared.by_path.version.PathVersion.{PathVersion}
+use Rattle.lnt_answers.specs.PrintedStretches.{AreStretchesBegun, AreStretchesPrinted, IsFaultByPath}
+use Rattle.lnt_answers.specs.PrintedStretches.{IsSoByPath, IsSoOfRows, OfAnswers, OfThese, path_stretch_line, stretch_line}
+use Rattle.lnt_compare.specs.declared.path_tables.held.HeldSpan.{HeldSpan}
+use Rattle.lnt_compare.specs.declared.path_tables.path_differences.DifferencesByPath.{DifferencesByPath}
+use Rattle.lnt_records.specs.declared.path_records.version.PathVersion.{PathVersion}
 use Rattle.lnt_compare.specs.Held.{held_span}
 use Rattle.lnt_records.specs.PathSpans.{StandInOrder}
 use Rattle.lnt_records.specs.PathTables.{IsPathTableOf}
@@ -93,14 +93,14 @@ more_stretches of_section of_table differences f g given told =
     (map stretch_of later.0, (subst (AreAllStretches f g) (map-append stretch_of given later.0) later.1, later.2))
 
 -- What is so in the version that the header names, is so of the table.
-pub numbers_so : (selection : Selection) (text : List ℕ) (version : Version)
+pub holds_by_number : (selection : Selection) (text : List ℕ) (version : Version)
     (HasFound : (Position → Option Answer) → (Position → Option Answer) → Type 0) (IsSo : OfAnswers Answer)
     → BeginsWith text (column_names version ∷ [])
     → IsTableWhere by_number span_answer (in_versions (line_answer selection)) text HasFound
     → ((f g : Position → Option Answer) → ((p : Position) → f p ≡ option_map (in_version version) (line_answer selection p))
     → HasFound f g → IsSo (IsAnyAnswer (in_version version) selection) f g)
     → IsSoOfRows selection text IsSo
-numbers_so selection text version HasFound IsSo begins h so =
+holds_by_number selection text version HasFound IsSo begins h so =
     let same : h.version ≡ version = numbered.one_version h.version version
     (one_beginning text (column_names h.version) (column_names version)
     (table_begins by_number text h.version h.table h.is_table) begins) in
@@ -118,11 +118,11 @@ pub told_as : (version : PathVersion) (index : Indexed) (selection : Selection) 
 told_as version index selection is p = sym (same_answer version index selection is (line_answer selection p))
 
 -- The same of a table by path with these spans.
-pub paths_so : (index : Indexed) (selection : Selection) (text : List ℕ) (version : PathVersion) (spans : List PathSpan)
+pub holds_by_path : (index : Indexed) (selection : Selection) (text : List ℕ) (version : PathVersion) (spans : List PathSpan)
     (IsSo : OfAnswers PathAnswer) → IsPathTableOf version text spans
     → IsSo (IsAnyAnswer (path_answer version (indexed_path index)) selection) (told_path version index selection) (path_span_answer spans)
     → IsSoByPath index selection text IsSo
-paths_so index selection text version spans IsSo is_table so =
+holds_by_path index selection text version spans IsSo is_table so =
     record { version = version; table = spans; is_table = is_table; so = so }
 
 -- A table with the header of a version has another fault than that of the header.

@@ -3,7 +3,7 @@ pub mod AddressLines
 pub mod Laws
 pub mod Lines
 pub mod PathTables
+pub mod PrintedStretches
 pub mod Stepping
-pub mod Stretches
 pub mod SumLines
 pub mod Verdicts

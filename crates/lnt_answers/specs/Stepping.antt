@@ -21,7 +21,7 @@ use Rattle.lnt_table.specs.declared.within.Scope.TheVariants.{All, Answered}
 use Rattle.lnt_table.specs.declared.wrong.WrongStretches.{WrongStretches}
 use Rattle.lnt_table.specs.WrongStretches.{HasFoundWrong}
 use Rattle.lnt_answers.specs.declared.report.Report.{Report}
-use Rattle.lnt_answers.specs.Stretches.{IsEndTold}
+use Rattle.lnt_answers.specs.PrintedStretches.{IsEndTold}
 use Rattle.lnt_answers.specs.Verdicts.{checked_line, checked_status}
 
 -- ---- stretches in a scope

@@ -115,7 +115,7 @@ impl<'t, 'p, S: SpanSource, P: Paths> StretchSource<DifferenceByPath>
     ghost use Rattle.lnt_spans.specs.AnyStretches.{AreAllStretches, EndsAt};
     ghost use Rattle.lnt_spans.specs.Partial.{AreCounts};
     ghost use Rattle.lnt_records.specs.PathSpans.{PathAnswer};
-    ghost use Rattle.lnt_compare.specs.declared.by_path.answer.DifferenceByPath.{DifferenceByPath as SpecDifference};
+    ghost use Rattle.lnt_compare.specs.declared.path_tables.answer.DifferenceByPath.{DifferenceByPath as SpecDifference};
     ghost use Rattle.lnt_compare.specs.Differing.{HasFoundStretchesByPath, path_all_by, path_missed_by, path_stretches_left};
     ghost use Rattle.lnt_compare.specs.PathStretches.{stretch_of, stretches_of};
     ghost use Rattle.lnt_table.specs.AnyVersion.{coverage_but};

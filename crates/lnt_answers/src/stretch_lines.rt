@@ -34,7 +34,7 @@ pub(crate) trait ShownStretch {
 impl ShownStretch for Difference {
     ghost use Rattle.std.specs.Prelude.{is_some};
     ghost use Rattle.lnt_spans.specs.Differences.{stretch_of};
-    ghost use Rattle.lnt_answers.specs.Stretches.{stretch_line, told_with};
+    ghost use Rattle.lnt_answers.specs.PrintedStretches.{stretch_line, told_with};
 
     ghost shown = { λ difference end. stretch_line (told_with (stretch_of difference) end) };
 
@@ -53,7 +53,7 @@ impl ShownStretch for Difference {
 impl ShownStretch for DifferenceByPath {
     ghost use Rattle.std.specs.Prelude.{is_some};
     ghost use Rattle.lnt_compare.specs.PathStretches.{stretch_of};
-    ghost use Rattle.lnt_answers.specs.Stretches.{path_stretch_line, told_with};
+    ghost use Rattle.lnt_answers.specs.PrintedStretches.{path_stretch_line, told_with};
 
     ghost shown = { λ difference end. path_stretch_line (told_with (stretch_of difference) end) };
 

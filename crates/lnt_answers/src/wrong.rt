@@ -1,7 +1,8 @@
 //! The stretches of positions at which no live sequence answers as a table does, printed.
 ghost use Rattle.std.specs.Prelude.{◌≡◌, ◌-◌, ◌^◌, ◌<◌, ◌⊎◌, true, [], ◌∷◌, IfErr, IfOk, OnErr};
 ghost use Rattle.std.specs.Io.KnownBytes.{Keeps};
-ghost use Rattle.lnt_answers.specs.Stretches.{AreStretchesBegun, AreStretchesOf, AreStretchesOfIndex, BeginsStretches, IsFaultPrinted};
+ghost use Rattle.lnt_answers.specs.PrintedStretches.{AreStretchesBegun, AreStretchesOf, AreStretchesOfIndex, BeginsStretches};
+ghost use Rattle.lnt_answers.specs.PrintedStretches.{IsFaultPrinted};
 ghost use Rattle.lnt_io.specs.IoStops.{IsPrinting};
 ghost use Rattle.lnt_io.specs.Stopping.{CountsFailure, IsTooLongOn};
 ghost use Rattle.lnt_records.specs.Faults.{IsUnnumbered};
@@ -9,8 +10,8 @@ ghost use Rattle.lnt_records.specs.Table.{BeginsWith, column_names};
 ghost use Rattle.lnt_table.specs.Asked.{OfLive};
 
 use crate::given::print_given;
+use crate::printed_stretches::{Stretches, print_end};
 use crate::report::Report;
-use crate::stretches::{Stretches, print_end};
 use lnt_compare::{TableRead, Window, differ_records, hold_table};
 use lnt_io::{IoStop, Source, print_line};
 use lnt_lines::Index;

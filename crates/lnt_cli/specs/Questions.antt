@@ -22,8 +22,8 @@ use Rattle.lnt_lines.specs.declared.section.JudgedIndex.TheVariants.{Good, Bad}
 use Rattle.lnt_lines.specs.Indexed.{Indexed, OfUnits}
 use Rattle.lnt_words.specs.declared.request.Question.{Question}
 use Rattle.lnt_words.specs.declared.request.Question.TheVariants.{Verify, Lookup, Files, Table, TableByPath, Md5}
-use Rattle.lnt_records.specs.declared.by_path.version.PathVersion.{PathVersion}
-use Rattle.lnt_records.specs.declared.by_path.version.PathVersion.TheVariants.{Three, Four}
+use Rattle.lnt_records.specs.declared.path_records.version.PathVersion.{PathVersion}
+use Rattle.lnt_records.specs.declared.path_records.version.PathVersion.TheVariants.{Three, Four}
 use Rattle.lnt_answers.specs.declared.report.Report.{Report}
 use Rattle.lnt_table.specs.AnyVersion.{scope_in}
 use Rattle.lnt_table.specs.Headline.{told_path}
@@ -33,8 +33,8 @@ use Rattle.lnt_answers.specs.Lines.{files_text, lookup_line}
 use Rattle.lnt_answers.specs.SumLines.{AreSumsBegun, AreSumsPrinted, listed_files}
 use Rattle.lnt_lines.specs.FaultTexts.{no_text}
 use Rattle.lnt_answers.specs.PathTables.{BeginsPrintedTable, IsPrintedTable}
-use Rattle.lnt_answers.specs.declared.stretches.Stretches.{Stretches}
-use Rattle.lnt_answers.specs.Stretches.{AreStretchesBegun, IsFaultPrinted, AreStretchesOfIndex, OfThese, outcome_status}
+use Rattle.lnt_answers.specs.declared.printed_stretches.Stretches.{Stretches}
+use Rattle.lnt_answers.specs.PrintedStretches.{AreStretchesBegun, IsFaultPrinted, AreStretchesOfIndex, OfThese, outcome_status}
 
 -- ---- the answer if a section is read and its lines aren't judged
 --     known       the section's bytes, where these are known

@@ -1,6 +1,6 @@
 //! What is answered to a request, the status and what notes depend on; and its notes.
 ghost use Rattle.std.specs.Prelude.{◌≡◌};
-ghost use Rattle.lnt_answers.specs.Stretches.{outcome_status};
+ghost use Rattle.lnt_answers.specs.PrintedStretches.{outcome_status};
 ghost use Rattle.lnt_answers.specs.Verdicts.{checked_status};
 ghost use Rattle.lnt_notes.specs.Notes.{TellsNotes, WritesNotes};
 

@@ -7,7 +7,7 @@ use Rattle.lnt_spans.specs.Differences.{IsFirstDifference}
 use Rattle.lnt_spans.specs.Merged.{AreFound, first_of}
 use Rattle.lnt_spans.specs.Laws.{AnswerAlike}
 use Rattle.lnt_spans.specs.Positions.{IsBelow}
-use Rattle.lnt_spans.proofs.FoundLaws.{found_so}
+use Rattle.lnt_spans.proofs.FoundLaws.{found_of_same}
 use Rattle.lnt_spans.proofs.PositionLaws.{order_three}
 use Rattle.lnt_compare.specs.declared.outcome.Compared.TheVariants.{Same, Fault, Differs}
 use Rattle.lnt_compare.specs.Outcomes.{IsOutcomeOf, Outcome, compared_of, whole_of}
@@ -37,11 +37,11 @@ one_difference {X} by_section by_table one other d e =
 -- ---- what is so of a table and of a section's answers
 
 -- what follows from it, for what is known to be answered
-pub where_so : {V X Y D : Type 0} (kind : TableKind V X Y D) (f g : V → Position → Option Y) (bytes : List ℕ)
+pub where_implied : {V X Y D : Type 0} (kind : TableKind V X Y D) (f g : V → Position → Option Y) (bytes : List ℕ)
     (P Q : (Position → Option Y) → (Position → Option Y) → Type 0)
     → ((version : V) (by_table : Position → Option Y) → P (f version) by_table → Q (g version) by_table)
     → IsTableWhere kind.format (answer_held kind.spans) f bytes P → IsTableWhere kind.format (answer_held kind.spans) g bytes Q
-where_so kind f g bytes P Q step h =
+where_implied kind f g bytes P Q step h =
     record { version = h.version; table = h.table; is_table = h.is_table; so = step h.version (answer_held kind.spans h.table) h.so }
 
 -- what follows from both of two such facts, as bytes are one table
@@ -60,13 +60,13 @@ where_both {V} {X} kind laws bytes section P Q R step h k =
 
 -- ---- sections with the same answers
 
-pub outcome_so : {V X Y D : Type 0} (kind : TableKind V X Y D) (bytes : List ℕ) (f g : V → Position → Option Y) (told : Outcome D)
+pub outcome_of_alike : {V X Y D : Type 0} (kind : TableKind V X Y D) (bytes : List ℕ) (f g : V → Position → Option Y) (told : Outcome D)
     → ((version : V) → AnswerAlike (f version) (g version)) → IsOutcomeOf kind f bytes told → IsOutcomeOf kind g bytes told
-outcome_so kind bytes f g (outcome.Fault told) same h = h
-outcome_so kind bytes f g (outcome.Table found) same h =
-    where_so kind f g bytes (λ by_section by_table. AreFound kind.stretch by_section by_table found)
+outcome_of_alike kind bytes f g (outcome.Fault told) same h = h
+outcome_of_alike kind bytes f g (outcome.Table found) same h =
+    where_implied kind f g bytes (λ by_section by_table. AreFound kind.stretch by_section by_table found)
     (λ by_section by_table. AreFound kind.stretch by_section by_table found)
-    (λ version by_table is. found_so kind.stretch by_table (f version) (g version) found (same version) is) h
+    (λ version by_table is. found_of_same kind.stretch by_table (f version) (g version) found (same version) is) h
 
 -- ---- an outcome at all positions
 

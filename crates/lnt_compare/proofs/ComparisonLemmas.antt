@@ -12,7 +12,7 @@ use Rattle.lnt_spans.specs.Partial.{addresses_answered, addresses_of}
 use Rattle.lnt_spans.specs.Positions.{IsAtMost, IsBelow}
 use Rattle.lnt_spans.proofs.AnsweringLaws.{back_in_order, end_pushed, prefix_in_order, answer_after, answer_before, answer_in, answer_same}
 use Rattle.lnt_spans.proofs.CountLemmas.{addresses_of_spans, same_addresses}
-use Rattle.lnt_spans.proofs.FoundLaws.{found_so}
+use Rattle.lnt_spans.proofs.FoundLaws.{found_of_same}
 use Rattle.lnt_spans.proofs.MergedLemmas.{merged_past}
 use Rattle.lnt_spans.proofs.PassedLaws.{answer_below, answer_from, begin_after}
 use Rattle.lnt_spans.proofs.PositionLaws.{at_most_trans, below_at_most, below_is_at_most, order_cases}
@@ -237,6 +237,6 @@ outcome_told M to_come kind tell version list passed bytes section (Table found)
   version = version;
   table = h.judged.table;
   is_table = (passed ++ h.more, h.all, h.judged.is_table);
-  so = found_so kind.stretch (answer_held kind.spans h.judged.table) (answer_told tell list) (section version) found same
+  so = found_of_same kind.stretch (answer_held kind.spans h.judged.table) (answer_told tell list) (section version) found same
       (h.found_is (answer_held kind.spans h.judged.table) h.judged.merged);
 }

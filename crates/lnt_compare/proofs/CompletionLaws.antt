@@ -8,8 +8,8 @@ use Rattle.lnt_spans.proofs.PositionLaws.{at_most_itself, at_most_trans, below_i
 use Rattle.lnt_spans.proofs.RunLaws.{HasRuns, first_runs}
 use Rattle.lnt_spans.proofs.SameLaws.{same_options}
 use Rattle.lnt_spans.proofs.StretchLaws.{AllAfter, given_on}
-use Rattle.lnt_compare.specs.declared.by_path.stretches.DifferencesByPath.{DifferencesByPath}
-use Rattle.lnt_records.specs.declared.by_path.record.SaidPath.{SaidPath}
+use Rattle.lnt_compare.specs.declared.path_tables.path_differences.DifferencesByPath.{DifferencesByPath}
+use Rattle.lnt_records.specs.declared.path_records.record.SaidPath.{SaidPath}
 use Rattle.lnt_compare.specs.Held.{held_span, IsTableAt, PathsEndAfter}
 use Rattle.lnt_records.specs.PathSpans.{path_answer, PathAnswer, path_span_answer, PathSpan, StandInOrder, path_spans}
 use Rattle.lnt_spans.specs.AnyStretches.{Stretch}

@@ -14,7 +14,7 @@ use Rattle.lnt_spans.specs.Partial.{addresses_between, addresses_of}
 use Rattle.lnt_spans.specs.Spans.{IsTold, end_of, AreInOrder, span_answer, span_in_version, number_spans}
 use Rattle.lnt_spans.specs.declared.listed.SpanList.{SpanList}
 use Rattle.lnt_spans.proofs.ToldLaws.{told, told_order}
-use Rattle.lnt_compare.specs.declared.gather.Gathering.{Gathering}
+use Rattle.lnt_compare.specs.declared.gathering.Gathering.{Gathering}
 use Rattle.lnt_compare.specs.declared.outcome.TableRead.{TableRead}
 use Rattle.lnt_compare.specs.declared.outcome.TableRead.TheVariants.{Fault, Table}
 use Rattle.lnt_compare.specs.declared.remaining.Remaining.{Remaining}

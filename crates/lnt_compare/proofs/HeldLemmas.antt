@@ -11,10 +11,10 @@ use Rattle.lnt_compare.proofs.ComparisonLemmas.{table_more}
 use Rattle.lnt_compare.proofs.KindLaws.{path_laws}
 use Rattle.lnt_records.proofs.PathLaws.{says_span}
 use Rattle.lnt_records.proofs.TableLaws.{table_order}
-use Rattle.lnt_compare.specs.declared.by_path.answer.AnswerByPath.{AnswerByPath}
-use Rattle.lnt_compare.specs.declared.by_path.held.HeldSpan.{HeldSpan}
-use Rattle.lnt_records.specs.declared.by_path.record.PathRecord.{PathRecord}
-use Rattle.lnt_records.specs.declared.by_path.version.PathVersion.{PathVersion}
+use Rattle.lnt_compare.specs.declared.path_tables.answer.AnswerByPath.{AnswerByPath}
+use Rattle.lnt_compare.specs.declared.path_tables.held.HeldSpan.{HeldSpan}
+use Rattle.lnt_records.specs.declared.path_records.record.PathRecord.{PathRecord}
+use Rattle.lnt_records.specs.declared.path_records.version.PathVersion.{PathVersion}
 use Rattle.lnt_compare.specs.Held.{held_span}
 use Rattle.lnt_records.specs.PathSpans.{PathSpan, StandInOrder, path_end, whole, PathAnswer}
 use Rattle.lnt_compare.specs.PathStretches.{told_path_answer}

@@ -5,9 +5,9 @@ use Rattle.lnt_spans.specs.declared.answer.Version.{Version}
 use Rattle.lnt_spans.specs.declared.span.Span.{Span}
 use Rattle.lnt_spans.specs.Answers.{in_version}
 use Rattle.lnt_spans.specs.Spans.{IsOfInstructions, span_in_version}
-use Rattle.lnt_records.specs.declared.by_path.version.PathVersion.{PathVersion}
+use Rattle.lnt_records.specs.declared.path_records.version.PathVersion.{PathVersion}
 use Rattle.lnt_records.specs.Lines.{IsTextLine}
-use Rattle.lnt_records.specs.declared.by_path.record.PathRecord.{PathRecord}
+use Rattle.lnt_records.specs.declared.path_records.record.PathRecord.{PathRecord}
 use Rattle.lnt_records.specs.PathSpans.{PathAnswer, PathSpan, whole}
 use Rattle.lnt_records.specs.PathLines.{IsPathLine, IsSpanLine, plain_by_path}
 use Rattle.lnt_records.specs.PathTables.{by_path, record_answer, record_span}
@@ -16,7 +16,7 @@ use Rattle.lnt_records.specs.Written.{IsOfVersion, line_text, plain_by_number}
 use Rattle.lnt_records.proofs.LineLaws.{line_some, row_some}
 use Rattle.lnt_records.proofs.PathLaws.{says_span}
 use Rattle.lnt_records.proofs.PathLineLaws.{plain_paths}
-use Rattle.lnt_compare.specs.declared.by_path.answer.DifferenceByPath.{DifferenceByPath}
+use Rattle.lnt_compare.specs.declared.path_tables.answer.DifferenceByPath.{DifferenceByPath}
 use Rattle.lnt_compare.specs.Joining.{tell_span}
 use Rattle.lnt_compare.specs.Outcomes.{tables_by_path}
 use Rattle.lnt_compare.specs.Passing.{IsLineIn}

@@ -13,11 +13,11 @@ use Rattle.lnt_spans.proofs.CountLemmas.{no_addresses}
 use Rattle.lnt_spans.proofs.MergedLemmas.{until_from}
 use Rattle.lnt_spans.proofs.PositionLaws.{not_both, origin_first}
 use Rattle.lnt_spans.proofs.StretchLemmas.{begins_at, begun_given}
-use Rattle.lnt_compare.specs.declared.by_path.answer.DifferenceByPath.{DifferenceByPath}
-use Rattle.lnt_compare.specs.declared.by_path.stretches.HeldSpans.{HeldSpans}
-use Rattle.lnt_compare.specs.declared.by_path.telling.PathMemory.{PathMemory}
-use Rattle.lnt_records.specs.declared.by_path.record.SaidPath.{SaidPath}
-use Rattle.lnt_records.specs.declared.by_path.version.PathVersion.{PathVersion}
+use Rattle.lnt_compare.specs.declared.path_tables.answer.DifferenceByPath.{DifferenceByPath}
+use Rattle.lnt_compare.specs.declared.path_tables.path_differences.HeldSpans.{HeldSpans}
+use Rattle.lnt_compare.specs.declared.path_tables.telling.PathMemory.{PathMemory}
+use Rattle.lnt_records.specs.declared.path_records.record.SaidPath.{SaidPath}
+use Rattle.lnt_records.specs.declared.path_records.version.PathVersion.{PathVersion}
 use Rattle.lnt_compare.specs.Passing.{IsRemembered}
 use Rattle.lnt_compare.specs.Held.{held_span, IsTableAt}
 use Rattle.lnt_records.specs.PathSpans.{path_answer, PathAnswer, spans_by_path, path_span_answer, StandInOrder, whole}

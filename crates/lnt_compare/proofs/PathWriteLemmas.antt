@@ -10,7 +10,7 @@ use Rattle.lnt_spans.specs.declared.answer.Answer.{Answer}
 use Rattle.lnt_spans.specs.declared.position.Position.{Position}
 use Rattle.lnt_spans.specs.declared.span.Span.{Span}
 use Rattle.lnt_spans.specs.Spans.{AreInOrder, span_answer, IsOfInstructions}
-use Rattle.lnt_records.specs.declared.by_path.version.PathVersion.{PathVersion}
+use Rattle.lnt_records.specs.declared.path_records.version.PathVersion.{PathVersion}
 use Rattle.lnt_compare.specs.PathStretches.{IsPathSpanOfInstructions}
 use Rattle.lnt_compare.specs.Joining.{Any, AreJoined, IsFirstOperation, LeaveOff, tell_span}
 use Rattle.lnt_records.specs.PathSpans.{PathAnswer, AreCanonicalOf, PathSpan}
@@ -99,10 +99,10 @@ all_whole tell list order whole =
 
 -- ---- a table whose writing was stopped
 
-begun_so : (version : PathVersion) (answers : Position → Option PathAnswer) (old new : Option (List ℕ)) (spans : List PathSpan)
+begins_path_table : (version : PathVersion) (answers : Position → Option PathAnswer) (old new : Option (List ℕ)) (spans : List PathSpan)
     → AreCanonicalOf answers spans → BeginsTableIn plain_by_path version spans old new
     → Keeps old new ⊎ AllByRecursion IsPathSpanOfInstructions spans → BeginsPathTable version answers old new
-begun_so version answers old new spans canonical begun decided = record {
+begins_path_table version answers old new spans canonical begun decided = record {
   spans = spans;
   canonical = canonical;
   begun = begun;
@@ -118,7 +118,7 @@ pub table_begun_none : (tell : Answer → PathAnswer) (version : PathVersion) (o
 table_begun_none tell version old list order =
     let all = joins_on tell same_answer Any list [] (left_first tell Any list tt order) in
     let spans : List PathSpan = map (tell_span tell) all.0 in
-    begun_so version (answer_told tell list) old old spans (joined_canonical tell list all.0 all.1)
+    begins_path_table version (answer_told tell list) old old spans (joined_canonical tell list all.0 all.1)
     (table_begun plain_by_path version (one_record version) old old [] spans spans (none_begun plain_by_path version old) refl)
     (inl (keeps_same old))
 
@@ -130,7 +130,7 @@ lines_begun tell version old new other list judged first alike j left lines =
     let all = joins_on tell same_answer Any list first left in
     let spans : List PathSpan = map (tell_span tell) (first ++ all.0) in
     let instructions = whole_instructions tell other list judged (first ++ all.0) alike j all.1 in
-    begun_so version (answer_told tell list) old new spans (joined_canonical tell list (first ++ all.0) all.1)
+    begins_path_table version (answer_told tell list) old new spans (joined_canonical tell list (first ++ all.0) all.1)
     (table_begun plain_by_path version (one_record version) old new (map (tell_span tell) first) (map (tell_span tell) all.0) spans
     (lines (all_left IsOfInstructions first all.0 (whole_back tell (first ++ all.0) instructions)))
     (sym (map-append (tell_span tell) first all.0)))

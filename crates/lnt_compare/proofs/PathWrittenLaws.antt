@@ -5,7 +5,7 @@ use Rattle.std.proofs.lemmas.Bool.{cases_Bool, eqb-true}
 use Rattle.lnt_records.specs.Table.{Fields}
 use Rattle.lnt_records.proofs.LineLaws.{one_plain_table, text_of, written_table}
 use Rattle.lnt_spans.specs.declared.position.Position.{Position}
-use Rattle.lnt_records.specs.declared.by_path.version.PathVersion.{PathVersion}
+use Rattle.lnt_records.specs.declared.path_records.version.PathVersion.{PathVersion}
 use Rattle.lnt_records.specs.PathSpans.{PathAnswer, path_answer, spans_by_path, AreCanonicalOf, PathSpan}
 use Rattle.lnt_records.specs.PathTables.{by_path}
 use Rattle.lnt_compare.specs.Canonical.{IsCanonicalPathTable}
@@ -18,7 +18,7 @@ use Rattle.lnt_spans.specs.declared.span.Span.{Span}
 use Rattle.lnt_spans.specs.Spans.{FitSpans, FitsSpan, AreInOrder}
 use Rattle.lnt_spans.specs.Positions.{IsAtMost}
 use Rattle.lnt_spans.proofs.PositionLaws.{at_most_itself, at_most_trans, below_is_at_most, order_cases}
-use Rattle.lnt_records.specs.declared.by_path.version.PathVersion.TheVariants.{Four, Three}
+use Rattle.lnt_records.specs.declared.path_records.version.PathVersion.TheVariants.{Four, Three}
 use Rattle.lnt_compare.specs.PathStretches.{IsLeastOperation, IsPathSpanOfInstructions, path_borders}
 use Rattle.lnt_compare.specs.Joining.{tell_span}
 use Rattle.lnt_compare.proofs.JoiningLemmas.{all_join, has_joined, joined_canonical, same_answer}

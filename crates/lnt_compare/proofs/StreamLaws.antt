@@ -75,9 +75,9 @@ whole_cut format plain laws version (Some x) (Some y) la ld names w0 w1 text all
     (h _ (rest_cut format plain laws version (Some y) ld names w1 all spans records e ends each))
 
 -- The rest of a table is a header, then bytes. What holds of every text that begins with the header holds of the rest.
-pub rest_so : (P : List ℕ → Type 0) (d : Option (List ℕ)) (ld : ℕ) (line window all : List ℕ) → Ends d ld (line ++ window) all
+pub holds_of_rest : (P : List ℕ → Type 0) (d : Option (List ℕ)) (ld : ℕ) (line window all : List ℕ) → Ends d ld (line ++ window) all
     → ((rest : List ℕ) → P (line ++ rest)) → P all
-rest_so P d ld line window all ends h = subst P (sym (ends.joined ∙ append_assoc line window ends.given)) (h (window ++ ends.given))
+holds_of_rest P d ld line window all ends h = subst P (sym (ends.joined ∙ append_assoc line window ends.given)) (h (window ++ ends.given))
 
 -- The outcome for the rest of a table is the outcome for the whole table. Lines were compared with spans as these came, and then others
 -- were parsed.

@@ -5,7 +5,7 @@ use Rattle.lnt_spans.specs.Positions.{IsBelow, IsAtMost}
 use Rattle.lnt_spans.specs.Runs.{IsRun, IsUpTo}
 use Rattle.lnt_spans.proofs.PositionLaws.{at_most_below, at_most_trans, below_is_at_most, order_cases, origin_first}
 use Rattle.lnt_spans.proofs.PositionLaws.{test_below, test_not_below}
-use Rattle.lnt_compare.specs.declared.by_path.held.HeldSpan.{HeldSpan}
+use Rattle.lnt_compare.specs.declared.path_tables.held.HeldSpan.{HeldSpan}
 use Rattle.lnt_compare.specs.Held.{held_span, held_end, IsTableAt, PathsEndAfter}
 use Rattle.lnt_records.specs.PathSpans.{PathAnswer, path_span_answer, PathSpan, StandInOrder, whole, path_spans}
 use Rattle.lnt_compare.specs.PathStretches.{told_path_answer}

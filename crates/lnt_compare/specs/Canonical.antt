@@ -9,9 +9,9 @@ use Rattle.lnt_spans.specs.declared.position.Position.{Position}
 use Rattle.lnt_spans.specs.declared.span.Span.{Span}
 use Rattle.lnt_spans.specs.Spans.{IsCanonical, span_answer, version_answer}
 use Rattle.lnt_records.specs.Written.{BeginsTable, BeginsTableIn, IsOfVersion, IsWrittenTable}
-use Rattle.lnt_compare.specs.declared.by_path.write.PathTable.{PathTable}
-use Rattle.lnt_compare.specs.declared.by_path.write.PathTable.TheVariants.{OperationIndex, Written}
-use Rattle.lnt_records.specs.declared.by_path.version.PathVersion.{PathVersion}
+use Rattle.lnt_compare.specs.declared.path_tables.write.PathTable.{PathTable}
+use Rattle.lnt_compare.specs.declared.path_tables.write.PathTable.TheVariants.{OperationIndex, Written}
+use Rattle.lnt_records.specs.declared.path_records.version.PathVersion.{PathVersion}
 use Rattle.lnt_compare.specs.PathStretches.{IsLeastOperation, IsPathSpanOfInstructions}
 use Rattle.lnt_records.specs.PathSpans.{PathAnswer, AreCanonicalOf, PathSpan}
 use Rattle.lnt_records.specs.PathTables.{IsPathTableOf}

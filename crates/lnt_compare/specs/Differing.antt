@@ -2,7 +2,7 @@
 use Rattle.std.specs.Prelude.{ℕ, List, [], Option, IfSome}
 use Rattle.lnt_spans.specs.declared.answer.Answer.{Answer}
 use Rattle.lnt_spans.specs.declared.listed.SpanList.{SpanList}
-use Rattle.lnt_spans.specs.declared.stretches.Differences.{Differences}
+use Rattle.lnt_spans.specs.declared.differences.Differences.{Differences}
 use Rattle.lnt_spans.specs.declared.position.Position.{Position}
 use Rattle.lnt_spans.specs.declared.span.Span.{Span}
 use Rattle.lnt_spans.specs.Stretching.{HasFoundStretches, HasGiven, IsGoing, stretches_to_give}
@@ -14,7 +14,7 @@ use Rattle.lnt_compare.specs.Comparisons.{IsTableWhere, in_versions}
 use Rattle.lnt_records.specs.Faults.{IsFault}
 use Rattle.lnt_records.specs.Table.{by_number}
 use Rattle.lnt_spans.specs.AnyStretches.{Stretch}
-use Rattle.lnt_compare.specs.declared.by_path.stretches.DifferencesByPath.{DifferencesByPath}
+use Rattle.lnt_compare.specs.declared.path_tables.path_differences.DifferencesByPath.{DifferencesByPath}
 use Rattle.lnt_compare.specs.Passing.{IsRemembered}
 use Rattle.lnt_records.specs.PathSpans.{path_answer, PathAnswer}
 use Rattle.lnt_records.specs.PathTables.{said_answer}

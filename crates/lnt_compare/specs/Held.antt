@@ -1,8 +1,8 @@
 -- A table by path that was read and is held.
 use Rattle.std.specs.Prelude.{ℕ, List, map, Vec, ◌≡◌, ◌+◌, cond, length, [], ◌∷◌, Option, Some, None}
 use Rattle.std.specs.Global.{Global}
-use Rattle.lnt_compare.specs.declared.by_path.held.HeldSpan.{HeldSpan}
-use Rattle.lnt_records.specs.declared.by_path.version.PathVersion.{PathVersion}
+use Rattle.lnt_compare.specs.declared.path_tables.held.HeldSpan.{HeldSpan}
+use Rattle.lnt_records.specs.declared.path_records.version.PathVersion.{PathVersion}
 use Rattle.lnt_compare.specs.declared.outcome.TableRead.{TableRead}
 use Rattle.lnt_compare.specs.declared.outcome.TableRead.TheVariants as held
 use Rattle.lnt_compare.specs.PathStretches.{told_path_answer}

@@ -13,8 +13,8 @@ use Rattle.lnt_compare.specs.declared.outcome.TableRead.{TableRead}
 use Rattle.lnt_compare.specs.declared.outcome.TableRead.TheVariants as outcome
 use Rattle.lnt_compare.specs.Comparisons.{IsTableWhere, TableKind, in_versions, tables_by_number}
 use Rattle.lnt_records.specs.Faults.{IsFaultIn}
-use Rattle.lnt_compare.specs.declared.by_path.answer.DifferenceByPath.{DifferenceByPath}
-use Rattle.lnt_records.specs.declared.by_path.version.PathVersion.{PathVersion}
+use Rattle.lnt_compare.specs.declared.path_tables.answer.DifferenceByPath.{DifferenceByPath}
+use Rattle.lnt_records.specs.declared.path_records.version.PathVersion.{PathVersion}
 use Rattle.lnt_records.specs.PathSpans.{PathAnswer, PathSpan, path_spans}
 use Rattle.lnt_compare.specs.PathStretches.{stretch_of}
 use Rattle.lnt_records.specs.PathTables.{by_path}

@@ -7,7 +7,7 @@ use Rattle.lnt_io.specs.Pulling.{Pulls}
 use Rattle.lnt_records.specs.Table.{Fields, TableFormat}
 use Rattle.lnt_records.specs.Written.{LineFormat}
 use Rattle.lnt_records.specs.Progress.{AreLinesIn}
-use Rattle.lnt_compare.specs.declared.by_path.telling.PathMemory.{PathMemory}
+use Rattle.lnt_compare.specs.declared.path_tables.telling.PathMemory.{PathMemory}
 use Rattle.lnt_records.specs.KeptPaths.{AreTextsOf}
 use Rattle.lnt_records.specs.PathLines.{AreFieldsOf}
 

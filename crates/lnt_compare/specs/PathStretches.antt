@@ -1,11 +1,11 @@
 -- All stretches at which a section and a table by path answer differently, each as a difference: its first position, and the
 -- two answers that stay the same from there on.
 use Rattle.std.specs.Prelude.{List, Option, map, option_map, ◌≡◌, ◌≢◌, [], ◌∷◌}
-use Rattle.lnt_compare.specs.declared.by_path.answer.AnswerByPath.{AnswerByPath}
+use Rattle.lnt_compare.specs.declared.path_tables.answer.AnswerByPath.{AnswerByPath}
 use Rattle.lnt_records.specs.PathSpans.{PathAnswer, PathSpan}
 use Rattle.lnt_spans.specs.declared.position.Position.{Position}
 use Rattle.lnt_spans.specs.AnyStretches.{AreAllStretches, Stretch}
-use Rattle.lnt_compare.specs.declared.by_path.answer.DifferenceByPath.{DifferenceByPath}
+use Rattle.lnt_compare.specs.declared.path_tables.answer.DifferenceByPath.{DifferenceByPath}
 use Rattle.std.specs.List.{AllByRecursion, Contains}
 use Rattle.lnt_spans.specs.Positions.{IsAtMost}
 

@@ -16,7 +16,7 @@ use Rattle.lnt_spans.specs.Merged.{AreFound, HasMerged, HasOneMore, answer_told,
 use Rattle.lnt_spans.specs.Partial.{addresses_of}
 use Rattle.lnt_spans.specs.Positions.{IsAtMost, IsBelow}
 pub use Rattle.lnt_compare.specs.declared.comparison.Comparison.{Comparison}
-use Rattle.lnt_compare.specs.declared.gather.Gathering.{Gathering}
+use Rattle.lnt_compare.specs.declared.gathering.Gathering.{Gathering}
 use Rattle.lnt_compare.specs.declared.outcome.TableRead.{TableRead}
 use Rattle.lnt_compare.specs.declared.outcome.TableRead.TheVariants as read
 use Rattle.lnt_compare.specs.Comparisons.{TableKind}

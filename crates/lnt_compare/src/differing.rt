@@ -10,7 +10,7 @@ ghost use Rattle.lnt_io.specs.Stopping.{CountsFailure, IsTooLongOn};
 ghost use Rattle.lnt_records.specs.Table.{column_names};
 ghost use Rattle.lnt_records.specs.Written.{line_text};
 
-use crate::gather::gather_after;
+use crate::gathering::gather_after;
 use crate::outcome::TableRead;
 use crate::passing::pass_spans;
 use crate::remaining::Remaining;

@@ -2,11 +2,10 @@
 //! a source.
 #![tactic(auto)]
 
-mod by_path;
 mod canonical;
 mod comparison;
 mod differing;
-mod gather;
+mod gathering;
 mod joined;
 pub mod laws;
 mod line;
@@ -14,19 +13,20 @@ mod line_telling;
 mod lines;
 mod outcome;
 mod passing;
+mod path_tables;
 mod remaining;
 mod stream;
 mod window;
 mod writing;
 
-pub use by_path::{
-    AnswerByPath, DifferenceByPath, DifferencesByPath, HeldSpan, HeldTable, PathTable,
-    compare_by_path, compare_lines_by_path, hold_table, write_by_path, write_instructions_by_path,
-};
 pub use canonical::write_canonical;
 pub use comparison::{compare, compare_records};
 pub use differing::{Differing, differ_lines, differ_records};
 pub use outcome::{Compared, Outcome, TableRead};
+pub use path_tables::{
+    AnswerByPath, DifferenceByPath, DifferencesByPath, HeldSpan, HeldTable, PathTable,
+    compare_by_path, compare_lines_by_path, hold_table, write_by_path, write_instructions_by_path,
+};
 pub use remaining::Remaining;
 pub use stream::compare_lines;
 pub use window::{Window, pass_header};

@@ -39,9 +39,9 @@ use Rattle.lnt_dump.proofs.Frames.{flat_push, FramesRead, IsNextFramed, read_mor
 
 -- ---- one unit
 
-abbrev faulty_so : {shown : DumpParts} {frame : Frame} {unit : BufferedUnit} {IsSo : List ℕ → Type 0} (offset : ℕ) (fault : RowFault)
+abbrev ends_with_fault : {shown : DumpParts} {frame : Frame} {unit : BufferedUnit} {IsSo : List ℕ → Type 0} (offset : ℕ) (fault : RowFault)
     → offset ≡ unit.offset → IsFaultOf unit shown.rows fault → IsSo (fault_line offset (Some fault)) → UnitEndsSo shown frame unit IsSo
-faulty_so offset fault at is so = record {
+ends_with_fault offset fault at is so = record {
   fault = Some fault;
   text = fault_line offset (Some fault);
   ends = (is, ap (λ (n : ℕ). fault_line n (Some fault)) at);
@@ -54,7 +54,7 @@ module _ (shown : DumpParts) (frame : Frame) (unit : BufferedUnit) (old new : Op
       → IsFaultOf unit shown.rows fault
       → IfOk printed (λ status. status ≡ No) → OnOk printed (Appends old new (fault_line offset (Some fault)))
       → IfOk printed (IsUnitPrinted shown frame unit old new)
-  faulty_told {offset} fault (Ok status) at is is_no line = (faulty_so offset fault at is line, is_no)
+  faulty_told {offset} fault (Ok status) at is is_no line = (ends_with_fault offset fault at is line, is_no)
   faulty_told fault (Err io_stop) at is is_no line = tt
 
   pub faulty_begun : {offset : ℕ} (fault : RowFault) (printed : Result Status IoStop) → offset ≡ unit.offset
@@ -62,7 +62,7 @@ module _ (shown : DumpParts) (frame : Frame) (unit : BufferedUnit) (old new : Op
       → OnErr printed (AppendsPrefix old new (fault_line offset (Some fault)))
       → OnErr printed (Keeps old new ⊎ UnitBegun shown frame unit old new)
   faulty_begun fault (Ok status) at is line = tt
-  faulty_begun {offset} fault (Err io_stop) at is line = inr (faulty_so offset fault at is line)
+  faulty_begun {offset} fault (Err io_stop) at is line = inr (ends_with_fault offset fault at is line)
 
   -- the line of bytes that are no unit
   module _ (fault : Fault) (broken : fault.reason ≢ Memory → BrokenUnit unit.order fault unit.offset unit.bytes) where
@@ -79,10 +79,10 @@ module _ (shown : DumpParts) (frame : Frame) (unit : BufferedUnit) (old new : Op
     broken_begun (Err io_stop) (inr other) line = faulty_begun (Malformed fault) (Err io_stop) refl (broken other) line
 
 -- of the lines of a unit
-abbrev pub valid_so : {shown : DumpParts} {frame : Frame} {IsSo : List ℕ → Type 0} (view : View)
+abbrev pub ends_without_fault : {shown : DumpParts} {frame : Frame} {IsSo : List ℕ → Type 0} (view : View)
     → (sound : (ops : List Op) × IsUnitOf view ops × (IsTrue shown.rows → Runs (with_ops view ops)))
     → ((ops : List Op) → IsUnitOf view ops → IsSo (unit_lines shown (frame, with_ops view ops))) → UnitEndsSo shown frame view.unit IsSo
-valid_so {shown} {frame} view (ops, is, runs) so = record {
+ends_without_fault {shown} {frame} view (ops, is, runs) so = record {
   fault = None;
   text = unit_lines shown (frame, with_ops view ops);
   ends = (with_ops view ops, is, runs, refl);
@@ -168,9 +168,9 @@ keeps_same (Some bytes) = refl
 
 module _ {order : Order} {shown : DumpParts} {start now old then : Option (List ℕ)} {of_reader : Order} {offset : ℕ}
     (done : UnitsPrinted order shown start now old then of_reader offset) where
-  begins_so : (Ends : List ℕ → Type 0) → IfSome now Ends
+  begins_with_units : (Ends : List ℕ → Type 0) → IfSome now Ends
       → IfSome start (λ bytes. (rest : List ℕ) × BeginsWithUnits order shown bytes done.units offset rest × Ends rest)
-  begins_so Ends ends = begins order shown start now done.units of_reader offset Ends done.read done.each ends
+  begins_with_units Ends ends = begins order shown start now done.units of_reader offset Ends done.read done.each ends
 
   -- nothing is left
   pub units_end : SectionEndsBy offset of_reader now None → IsDumped order shown start old then Done
@@ -178,7 +178,7 @@ module _ {order : Order} {shown : DumpParts} {start now old then : Option (List 
     units = done.units;
     offset = offset;
     fault = None;
-    so = begins_so (λ rest. rest ≡ []) ends;
+    so = begins_with_units (λ rest. rest ≡ []) ends;
     printed = subst (Appends old then) (sym (append-nil (flat_map (unit_lines shown) done.units))) done.printed;
     status_is = refl;
   }
@@ -190,7 +190,7 @@ module _ {order : Order} {shown : DumpParts} {start now old then : Option (List 
     units = done.units;
     offset = offset;
     fault = Some fault;
-    so = begins_so (λ rest. IsDumpFault order shown offset rest fault) is;
+    so = begins_with_units (λ rest. IsDumpFault order shown offset rest fault) is;
     printed = Appends-trans old then new (flat_map (unit_lines shown) done.units) (fault_line offset (Some fault)) done.printed line;
     status_is = refl;
   }
@@ -201,7 +201,7 @@ module _ {order : Order} {shown : DumpParts} {start now old then : Option (List 
     units = done.units;
     offset = offset;
     fault = Some fault;
-    so = begins_so (λ rest. IsDumpFault order shown offset rest fault) is;
+    so = begins_with_units (λ rest. IsDumpFault order shown offset rest fault) is;
     begun = prefix_after old then new (flat_map (unit_lines shown) done.units) (fault_line offset (Some fault)) done.printed line;
   }
 
@@ -225,7 +225,7 @@ module _ {order : Order} {shown : DumpParts} {start now old then : Option (List 
     units = done.units;
     offset = offset;
     fault = None;
-    so = begins_so (λ rest. Unit {0}) (any_rest now);
+    so = begins_with_units (λ rest. Unit {0}) (any_rest now);
     begun = prefix_after old then new (flat_map (unit_lines shown) done.units) [] done.printed
         (prefix_since then new new [] kept (prefix_none new []));
   }

@@ -41,7 +41,7 @@ pub record IsRunning (view : View) (ops : List Op) (walk : Walk) (run : RunState
   pub ran : HasRan view.header.numbers (take k ops) run
 
 pub running_first : {view : View} {ops : List Op} {walk : Walk} {run : RunState} → StandsAt view ops 0 walk
-    → run.machine.header ≡ view.header.numbers → HasDone run [] → run.machine.count ≡ 0 → IsRunning view ops walk run
+    → run.machine.numbers ≡ view.header.numbers → HasDone run [] → run.machine.count ≡ 0 → IsRunning view ops walk run
 running_first {view} {ops} {walk} {run} s header has count =
     record { k = 0; at = s; ran = ran_first header has count }
 
@@ -59,7 +59,7 @@ so_far view ops k = rows_of_ops view.header.numbers (take k ops)
 module _ {view : View} {ops : List Op} {walk walk' : Walk} {run : RunState} {item : OpView} (header : IsHeader view.header)
     (r : IsRunning view ops walk run) (step : GivesOperation item walk walk') where
   -- what may be run
-  pub running_allowed : (op : Op) × StandsFor item op × Admits run.machine.header op
+  pub running_allowed : (op : Op) × StandsFor item op × Admits run.machine.numbers op
   running_allowed = may_step item run.machine walk walk' (r.ran.header_is ∙ sym r.at.left.header_is) step
 
   next : IsNextAt view ops r.k item walk'
@@ -106,7 +106,7 @@ pub record RowsPrinted (view : View) (ops : List Op) (index : ℕ) (walk : Walk)
   pub paged : IsPaged (before ++ numbered row_line 0 (so_far view ops running.k)) old now page
 
 pub rows_none : {view : View} {ops : List Op} {walk : Walk} {run : RunState} (page : List ℕ) (out : Option (List ℕ))
-    → StandsAt view ops 0 walk → run.machine.header ≡ view.header.numbers → HasDone run [] → run.machine.count ≡ 0
+    → StandsAt view ops 0 walk → run.machine.numbers ≡ view.header.numbers → HasDone run [] → run.machine.count ≡ 0
     → RowsPrinted view ops 0 walk run page page out out
 unfolding running_first
 rows_none {view} {ops} {walk} {run} page out s header has count = record {
@@ -197,12 +197,12 @@ rows_all {view} {ops} {index} {walk} {walk'} {run} {before} {page} {old} {now} t
 pub record IsJudging (view : View) (walk : Walk) (run : RunState) : Type 0 where
   pub ops : List Op
   pub given : HasGiven view ops walk
-  pub header : run.machine.header ≡ walk.header
+  pub header : run.machine.numbers ≡ walk.numbers
   pub running : (all : List Op) → IsUnitOf view all → IsRunning view all walk run
 
-pub judging_first : {view : View} {walk : Walk} {run : RunState} → IsUnitView view → walk.header ≡ view.header.numbers
+pub judging_first : {view : View} {walk : Walk} {run : RunState} → IsUnitView view → walk.numbers ≡ view.header.numbers
     → walk.failed ≡ false → walk.at.place ≡ view.place → walk.at.rest ≡ view.program → walk.at.order ≡ view.header.numbers.order
-    → run.machine.header ≡ view.header.numbers → HasDone run [] → run.machine.count ≡ 0 → IsJudging view walk run
+    → run.machine.numbers ≡ view.header.numbers → HasDone run [] → run.machine.count ≡ 0 → IsJudging view walk run
 judging_first {view} {walk} {run} is header going place rest order same has count = record {
   ops = [];
   given = given_none view walk header going place rest order;
@@ -217,7 +217,7 @@ module _ {view : View} {walk walk' : Walk} {run : RunState} (header : IsHeader v
   judging_next {item = item} step on = record {
     ops = j.ops ++ step.gives.op ∷ [];
     given = given_more view j.ops step.gives.op item walk walk' j.given step step.gives.stands;
-    header = on.machine.header ∙ j.header ∙ sym step.header_is;
+    header = on.machine.numbers ∙ j.header ∙ sym step.header_is;
     running = λ all p. running_next header (j.running all p) step is on;
   }
 

@@ -36,7 +36,7 @@ program_of view ops is p =
     subst (Each (OpBytes view.header.numbers) ops) found.program p.spelled.operations
 
 pub stands_first : (view : View) (ops : List Op) (walk : Walk) → IsUnitView view → IsUnitOf view ops
-    → walk.header ≡ view.header.numbers → walk.at.rest ≡ view.program → walk.failed ≡ false → StandsAt view ops 0 walk
+    → walk.numbers ≡ view.header.numbers → walk.at.rest ≡ view.program → walk.failed ≡ false → StandsAt view ops 0 walk
 stands_first view ops walk is p header rest going = record {
   within = omega arith;
   left = record {

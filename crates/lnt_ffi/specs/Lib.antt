@@ -1,5 +1,5 @@
-pub mod ByPath
 pub mod ByteSources
+pub mod CheckVerdicts
 pub mod Flat
 pub mod Index
 pub mod Returns

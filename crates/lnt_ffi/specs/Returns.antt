@@ -22,7 +22,7 @@ use Rattle.lnt_table.specs.Written.{IsTableOfUnits}
 use Rattle.lnt_ffi.specs.declared.section.FlatSection.{FlatSection}
 use Rattle.lnt_ffi.specs.declared.unit.FlatUnit.{FlatUnit}
 use Rattle.lnt_ffi.specs.declared.verdict.FlatVerdict.{FlatVerdict}
-use Rattle.lnt_ffi.specs.ByPath.{paths_in, verdict_of_check}
+use Rattle.lnt_ffi.specs.CheckVerdicts.{paths_in, verdict_of_check}
 use Rattle.lnt_ffi.specs.Flat.{options_of, span_of, FlatSpan}
 use Rattle.lnt_ffi.specs.Verdicts.{numbered, verdict_of_no, yes}
 

@@ -1,12 +1,12 @@
 //! Sections checked against address tables.
 ghost use Rattle.std.specs.Prelude.{◌≡◌, length};
-ghost use Rattle.lnt_ffi.specs.ByPath.{paths_in, verdict_of_check};
+ghost use Rattle.lnt_ffi.specs.CheckVerdicts.{paths_in, verdict_of_check};
 ghost use Rattle.lnt_ffi.specs.Returns.{ReturnsVerdictByPath, ReturnsVerdict, with_prefix};
 ghost use Rattle.lnt_table.specs.AnyVersion.{scope_in};
 ghost use Rattle.lnt_table.specs.declared.within.Scope.TheVariants as Scope;
 
-use crate::by_path::{paths_in, verdict_of_check};
 use crate::bytes::Bytes;
+use crate::check_verdict::{paths_in, verdict_of_check};
 use crate::room::put_bytes;
 use crate::section::FlatSection;
 use crate::verdict::{FlatVerdict, verdict_of_stop};

@@ -5,8 +5,8 @@
 //! it returns, so there is nothing to free, and no call shares anything with another.
 #![tactic(auto)]
 
-mod by_path;
 mod bytes;
+mod check_verdict;
 mod checking;
 mod flat;
 mod indexed;

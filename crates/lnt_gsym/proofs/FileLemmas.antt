@@ -24,7 +24,7 @@ use Rattle.lnt_gsym.proofs.FunctionSpanLemmas.{RowsRise, spans_answer, spans_ord
 use Rattle.lnt_gsym.proofs.JudgeLemmas.{files_length}
 use Rattle.lnt_gsym.proofs.MadeLemmas.{rows_rise}
 use Rattle.lnt_gsym.proofs.NameLemmas.{rows_tell}
-use Rattle.lnt_gsym.proofs.OpenLemmas.{entry_first, no_rows, read_so, same_functions}
+use Rattle.lnt_gsym.proofs.OpenLemmas.{entry_first, no_rows, function_is_read, same_functions}
 use Rattle.lnt_gsym.proofs.RowSpanLemmas.{all_instructions, in_order, Rising}
 
 -- ---- rows stand in order
@@ -65,7 +65,7 @@ tables_rise (suc room) files start at held tables rise e =
 
 function_rises : (files start : ℕ) (at : At) (f : Function) → function_of files start at ≡ Ok f → RowsRise f
 function_rises files start at f e =
-    let there = read_so files start at f e in
+    let there = function_is_read files start at f e in
     tables_rise (suc (length there.at.rest)) files start there.at [] f.tables tt there.tables
 
 -- ---- functions
@@ -151,9 +151,9 @@ first_to_come source gsym has above covered none = record {
   are = ap (λ c. spans_from (named source.names.now) c gsym.functions) (sym covered);
 }
 
-pub spans_so : (source : GsymSpans) (gsym : Gsym) → HasRead source.functions source.names.now gsym → source.above ≡ None
+pub spans_answer_as_gsym : (source : GsymSpans) (gsym : Gsym) → HasRead source.functions source.names.now gsym → source.above ≡ None
     → source.covered ≡ 0 → source.part.rows.row ≡ None → SpansSo (AreToCome source) source.names.now gsym
-spans_so source gsym has above covered none =
+spans_answer_as_gsym source gsym has above covered none =
     let names : NamesSaid = source.names.now in
     let rise : AllByRecursion RowsRise gsym.functions
     = functions_rise source.functions.order source.functions.bytes.now source.functions.entries.base has.files

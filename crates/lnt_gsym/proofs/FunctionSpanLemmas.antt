@@ -5,7 +5,7 @@ use Rattle.std.specs.Prelude.{nat_lt, not, ◌&&◌, ◌||◌, ◌==◌, if◌th
 use Rattle.std.specs.List.{AllByRecursion, list_all}
 use Rattle.std.specs.Option.{option_or}
 use Rattle.std.proofs.lemmas.Bool.Decides.{nat_tests}
-use Rattle.lnt_records.specs.declared.by_path.version.PathVersion.TheVariants.{Four}
+use Rattle.lnt_records.specs.declared.path_records.version.PathVersion.TheVariants.{Four}
 use Rattle.lnt_records.specs.PathSpans.{PathAnswer, spans_by_path}
 use Rattle.lnt_spans.specs.declared.position.Position.{Position}
 use Rattle.lnt_gsym.specs.GsymAnswers.{function_at, gsym_answer, holds, is_nearest, row_answer, row_in}

@@ -149,7 +149,7 @@ pub some_text : (strings : List ℕ) (offset : ℕ) → offset < length strings 
 some_text strings offset lt never =
     ap has_bytes (ap first_text (at_index strings offset lt) ∙ text_more (get_or strings offset 0) (drop (offset + 1) strings) never)
 
-pub named_so : (path one two : List ℕ) (strings : List ℕ) (directory name : ℕ)
+pub path_is_joined : (path one two : List ℕ) (strings : List ℕ) (directory name : ℕ)
     → path ≡ joined (text_at strings directory) (text_at strings name) → one ≡ text_at strings directory → two ≡ text_at strings name
     → path ≡ joined one two
-named_so path one two strings directory name e o t = rw (o, t) e
+path_is_joined path one two strings directory name e o t = rw (o, t) e

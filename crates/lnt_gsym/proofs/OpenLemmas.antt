@@ -198,8 +198,8 @@ pub record IsReadSo (files start : ℕ) (f : Function) : Type 0 where
   pub start_is : f.start ≡ start
   pub tables : tables_from (suc (length at.rest)) files start at ≡ Ok f.tables
 
-pub read_so : (files start : ℕ) (at : At) (f : Function) → function_of files start at ≡ Ok f → IsReadSo files start f
-read_so files start at f e =
+pub function_is_read : (files start : ℕ) (at : At) (f : Function) → function_of files start at ≡ Ok f → IsReadSo files start f
+function_is_read files start at f e =
     let size = then_is (number 4 at) (λ size. then_read (number 4 size.1) (λ name.
     then_read (tables_from (suc (length name.1.rest)) files start name.1) (λ tables.
     one_of (record { start = start; size = size.0; name = name.0; tables = tables })))) f e in
@@ -241,7 +241,7 @@ entry_first order bytes base files start info starts infos fs e = by (function_o
         let rest = then_is (functions_of order bytes base files starts infos) (λ functions. all_functions (f ∷ functions)) fs (sym one
         ∙ e) in
         let all : f ∷ rest.0 ≡ fs = same_functions (f ∷ rest.0) fs rest.2 in
-        (f, rest.0, sym all, g, rest.1, (read_so files (base + start) (at_place order bytes info) f g).start_is)
+        (f, rest.0, sym all, g, rest.1, (function_is_read files (base + start) (at_place order bytes info) f g).start_is)
 
 next_is : (order : Order) (bytes : List ℕ) (base files start : ℕ) (starts infos : List ℕ) (fs : List Function)
     → functions_of order bytes base files starts infos ≡ Ok fs → length starts ≡ length infos

@@ -4,7 +4,7 @@ use Rattle.std.proofs.Common.{refl, sym, ap, arith, cond, option_and_then}
 use Rattle.std.specs.Prelude.{nat_lt, is_some}
 use Rattle.std.specs.Option.{option_or}
 use Rattle.std.proofs.lemmas.Bool.Decides.{nat_tests}
-use Rattle.lnt_records.specs.declared.by_path.version.PathVersion.TheVariants.{Four}
+use Rattle.lnt_records.specs.declared.path_records.version.PathVersion.TheVariants.{Four}
 use Rattle.lnt_records.specs.PathSpans.{PathAnswer, spans_by_path}
 use Rattle.lnt_spans.specs.declared.position.Position.{Position}
 use Rattle.lnt_spans.specs.declared.span.Span.{Span}

@@ -65,7 +65,7 @@ impl<'a> Names<'a> {
     }
 
     // The directory of the file with a number, and its name in it; both are empty if there is no such file.
-    #[tactic(auto, using(crate::proofs::NameLemmas::named_so))]
+    #[tactic(auto, using(crate::proofs::NameLemmas::path_is_joined))]
     fn parts(&self, file: u64) -> (&'a [u8], &'a [u8])
         ensures { path_in self.now.strings self.now.files file ≡ joined result.0.now result.1.now }
     {

@@ -9,10 +9,11 @@ use Rattle.lnt_header.proofs.FirstFaultLaws.{IsOneFault}
 use Rattle.std.proofs.lemmas.Grind.{common_steps}
 
 -- a field
-pub field_so : {X : Type 0} {Spells : X → List ℕ → Type 0} {IsSo : Reason → List ℕ → Type 0} → IsOneFieldFault Spells IsSo → (old : At)
+pub field_is_refused : {X : Type 0} {Spells : X → List ℕ → Type 0} {IsSo : Reason → List ℕ → Type 0} → IsOneFieldFault Spells IsSo
+    → (old : At)
     (fault : Fault) (reason : Reason)
     → fault.place ≡ old.place → fault.reason ≡ reason → IsSo reason old.rest → RefusesField IsSo Spells old fault
-field_so {X} {Spells} {IsSo} law old fault reason place same so =
+field_is_refused {X} {Spells} {IsSo} law old fault reason place same so =
     let here : IsSo fault.reason old.rest = subst (λ (c : Reason). IsSo c old.rest) (sym same) so in
     record { place = place; reason = here; none = law.none fault.reason old.rest here }
 

@@ -15,7 +15,7 @@ use Rattle.lnt_header.specs.Joins.{Both}
 use Rattle.lnt_header.proofs.ByteLaws.{one_digit}
 use Rattle.lnt_header.proofs.FirstFaultLaws.{fault_as, fault_of_part, field_fault, first_of, IsHere, IsOneFault}
 use Rattle.lnt_header.proofs.ReaderLaws.{reads_map, refuses_map}
-use Rattle.lnt_header_bytes.proofs.FaultLaws.{field_so, so_after}
+use Rattle.lnt_header_bytes.proofs.FaultLaws.{field_is_refused, so_after}
 use Rattle.lnt_header_bytes.specs.Stepping.{ByteOf, IsByteFault}
 use Rattle.lnt_header_bytes.specs.Stepping.IsByteFault.{no_byte, is_zero}
 use Rattle.lnt_header_bytes.specs.HeaderFaults.{AreFieldBytes, IsSoundFault, MayBe, SoundBytes, SinglesBytes, IsSinglesFault, single_fields}
@@ -64,13 +64,13 @@ byte_fault rule = record { none = byte_none rule; one = byte_one rule }
 
 pub byte_cut : (zero_reason : Option Reason) (old : At) (fault : Fault) → RefusesField (IsCutShort 1) (NumberBytes old.order 1) old fault
     → RefusesField (IsByteFault zero_reason) (ByteOf zero_reason) old fault
-byte_cut zero_reason old fault r = field_so (byte_fault zero_reason) old fault fault.reason r.place refl
+byte_cut zero_reason old fault r = field_is_refused (byte_fault zero_reason) old fault fault.reason r.place refl
     (no_byte r.reason.reason_is (nil_from_length old.rest (omega (arith, r.reason.short))))
 
 pub byte_zero : (zero_reason : Option Reason) (reason : Reason) (n : ℕ) (old new : At) (fault : Fault) → zero_reason ≡ Some reason
     → n ≡ 0 → Reads (NumberBytes old.order 1) n old new → fault.place ≡ old.place → fault.reason ≡ reason
     → RefusesField (IsByteFault zero_reason) (ByteOf zero_reason) old fault
-byte_zero zero_reason reason n old new fault is zero_is r place same = field_so (byte_fault zero_reason) old fault reason place same
+byte_zero zero_reason reason n old new fault is zero_is r place same = field_is_refused (byte_fault zero_reason) old fault reason place same
     (is_zero new.rest is (simp (r.whole, byte_is old.order n r.spelling r.spelled, zero_is)))
 
 -- what the reader of one byte cites

@@ -22,7 +22,7 @@ use Rattle.lnt_header.proofs.ReaderLaws.{reads_map, reads_both}
 use Rattle.lnt_header_bytes.specs.HeaderBytes.{ByteBytes, AddressSizeBytes, SelectorBytes, CountedBytes, AfterSize, StartBytes}
 use Rattle.lnt_header_bytes.specs.HeaderFaults.{IsAddressSizeFault, IsSelectorFault, IsCountedFault, IsStartFault}
 use Rattle.lnt_header_bytes.specs.HeaderFaults.IsStartFault.{address_size, selector, header_length}
-use Rattle.lnt_header_bytes.proofs.FaultLaws.{field_so, so_here, so_after}
+use Rattle.lnt_header_bytes.proofs.FaultLaws.{field_is_refused, so_here, so_after}
 use Rattle.lnt_header_bytes.proofs.TableLaws.{joins, parts_as}
 use Rattle.std.proofs.lemmas.Grind.{common_steps}
 
@@ -71,12 +71,12 @@ size_fault = record { none = size_none; one = λ reason other bytes h k. size_to
 
 pub refuses_size : (old : At) (fault : Fault) → RefusesField (IsCutShort 1) (NumberBytes old.order 1) old fault
     → RefusesField IsAddressSizeFault AddressSizeBytes old fault
-refuses_size old fault r = field_so size_fault old fault Truncated r.place r.reason.reason_is r.reason.short
+refuses_size old fault r = field_is_refused size_fault old fault Truncated r.place r.reason.reason_is r.reason.short
 
 pub refuses_other_size : (n : ℕ) (old new : At) (fault : Fault) → fault.reason ≡ AddressSize n → fault.place ≡ old.place
     → Reads (NumberBytes old.order 1) n old new → (IsAddressSize n → ⊥) → RefusesField IsAddressSizeFault AddressSizeBytes old fault
 refuses_other_size n old new fault reason place r other =
-    field_so size_fault old fault (AddressSize n) place reason (new.rest, other, first_is n old new r)
+    field_is_refused size_fault old fault (AddressSize n) place reason (new.rest, other, first_is n old new r)
 
 -- ---- the segment selector size
 
@@ -97,12 +97,12 @@ selector_fault = grind (arith, common_steps, selector_none, selector_told)
 
 pub refuses_selector : (old : At) (fault : Fault) → RefusesField (IsCutShort 1) (NumberBytes old.order 1) old fault
     → RefusesField IsSelectorFault SelectorBytes old fault
-refuses_selector old fault r = field_so selector_fault old fault Truncated r.place r.reason.reason_is r.reason.short
+refuses_selector old fault r = field_is_refused selector_fault old fault Truncated r.place r.reason.reason_is r.reason.short
 
 pub refuses_other_selector : (n : ℕ) (old new : At) (fault : Fault) → fault.reason ≡ SegmentSelector n → fault.place ≡ old.place
     → Reads (NumberBytes old.order 1) n old new → n ≢ 0 → RefusesField IsSelectorFault SelectorBytes old fault
 refuses_other_selector n old new fault reason place r other =
-    field_so selector_fault old fault (SegmentSelector n) place reason (new.rest, omega (arith, other), first_is n old new r)
+    field_is_refused selector_fault old fault (SegmentSelector n) place reason (new.rest, omega (arith, other), first_is n old new r)
 
 -- ---- header_length, and what it counts
 
@@ -155,12 +155,13 @@ counted_fault format order = record { none = counted_none format order; one = co
 pub refuses_length : (format : Format) (old : At) (fault : Fault)
     → RefusesField (IsCutShort (offset_size format)) (OffsetBytes format old.order) old fault
     → RefusesField (IsCountedFault format old.order) (CountedBytes format old.order) old fault
-refuses_length format old fault r = field_so (counted_fault format old.order) old fault Truncated r.place r.reason.reason_is r.reason.short
+refuses_length format old fault r =
+    field_is_refused (counted_fault format old.order) old fault Truncated r.place r.reason.reason_is r.reason.short
 
 pub refuses_counted : (format : Format) (n : ℕ) (old middle : At) (short fault : Fault) → Reads (OffsetBytes format old.order) n old middle
     → RefusesField (IsCutShort n) (TakenBytes n) middle short → fault.place ≡ old.place → fault.reason ≡ HeaderLength
     → RefusesField (IsCountedFault format old.order) (CountedBytes format old.order) old fault
-refuses_counted format n old middle short fault r s place reason = grind (arith, common_steps, field_so, counted_fault)
+refuses_counted format n old middle short fault r s place reason = grind (arith, common_steps, field_is_refused, counted_fault)
 
 -- ---- the three
 

@@ -53,48 +53,49 @@ later EmptyFormat prefix before left h =
     (h.0, h.1, h.2, prefix ++ h.3, h.4, h.5, h.6, ap (λ (z : List ℕ). prefix ++ z) h.7 ∙ sym (append_assoc prefix h.3 (0 ∷ [])))
 later reason prefix before left h = absurd h
 
-short_so : (n : ℕ) (reason : Reason) (bytes : List ℕ) → n ≤ 16 → IsCutShort n reason bytes → IsWrongTable reason [] bytes
-short_so n reason bytes small h = subst (λ (c : Reason). IsWrongTable c [] bytes) (sym h.reason_is) (number n small h.short)
+short_is_wrong : (n : ℕ) (reason : Reason) (bytes : List ℕ) → n ≤ 16 → IsCutShort n reason bytes → IsWrongTable reason [] bytes
+short_is_wrong n reason bytes small h = subst (λ (c : Reason). IsWrongTable c [] bytes) (sym h.reason_is) (number n small h.short)
 
-leb_so : (reason : Reason) (bytes : List ℕ) → IsLebFault IsLargeUnsigned reason bytes → IsWrongTable reason [] bytes
-leb_so Truncated bytes h = leb h
-leb_so LebTooLarge bytes h = (h.0, h.1, h.2, h.4, inl h.3)
-leb_so reason bytes h = absurd h
+leb_is_wrong : (reason : Reason) (bytes : List ℕ) → IsLebFault IsLargeUnsigned reason bytes → IsWrongTable reason [] bytes
+leb_is_wrong Truncated bytes h = leb h
+leb_is_wrong LebTooLarge bytes h = (h.0, h.1, h.2, h.4, inl h.3)
+leb_is_wrong reason bytes h = absurd h
 
-text_so : (reason : Reason) (bytes : List ℕ) → IsCutText reason bytes → IsWrongTable reason [] bytes
-text_so reason bytes h = subst (λ (c : Reason). IsWrongTable c [] bytes) (sym h.reason_is) (text h.no_zero)
+text_is_wrong : (reason : Reason) (bytes : List ℕ) → IsCutText reason bytes → IsWrongTable reason [] bytes
+text_is_wrong reason bytes h = subst (λ (c : Reason). IsWrongTable c [] bytes) (sym h.reason_is) (text h.no_zero)
 
-block_so : (reason : Reason) (bytes : List ℕ) → IsBlockFault UnsignedLeb (IsLebFault IsLargeUnsigned) reason bytes
+block_is_wrong : (reason : Reason) (bytes : List ℕ) → IsBlockFault UnsignedLeb (IsLebFault IsLargeUnsigned) reason bytes
     → IsWrongTable reason [] bytes
-block_so reason bytes (no_length h) = leb_so reason bytes h
-block_so reason bytes (cut_block n spelling rest e p joined lt) =
+block_is_wrong reason bytes (no_length h) = leb_is_wrong reason bytes h
+block_is_wrong reason bytes (cut_block n spelling rest e p joined lt) =
     subst (λ (c : Reason). IsWrongTable c [] bytes) (sym e) (block n spelling rest p joined lt)
 
-sized_so : (order : Order) (size : ℕ) (reason : Reason) (bytes : List ℕ) → size ≤ 4
+sized_is_wrong : (order : Order) (size : ℕ) (reason : Reason) (bytes : List ℕ) → size ≤ 4
     → IsBlockFault (NumberBytes order size) (IsCutShort size) reason bytes → IsWrongTable reason [] bytes
-sized_so order size reason bytes small (no_length h) = short_so size reason bytes (omega arith) h
-sized_so order size reason bytes small (cut_block n spelling rest e p joined lt) =
+sized_is_wrong order size reason bytes small (no_length h) = short_is_wrong size reason bytes (omega arith) h
+sized_is_wrong order size reason bytes small (cut_block n spelling rest e p joined lt) =
     subst (λ (c : Reason). IsWrongTable c [] bytes) (sym e) (sized_block order size n spelling rest small p joined lt)
 
 pub small_offset : (format : Format) → offset_size format ≤ 16
 small_offset D32 = omega arith
 small_offset D64 = omega arith
 
-value_so : (format : Format) (order : Order) (form : Form) (reason : Reason) (bytes : List ℕ) → IsValueFault format order form reason bytes
+value_is_wrong : (format : Format) (order : Order) (form : Form) (reason : Reason) (bytes : List ℕ)
+    → IsValueFault format order form reason bytes
     → IsWrongTable reason [] bytes
-value_so format order forms.Data1 reason bytes h = short_so 1 reason bytes (omega arith) h
-value_so format order forms.Data2 reason bytes h = short_so 2 reason bytes (omega arith) h
-value_so format order forms.Data4 reason bytes h = short_so 4 reason bytes (omega arith) h
-value_so format order forms.Data8 reason bytes h = short_so 8 reason bytes (omega arith) h
-value_so format order forms.Data16 reason bytes h = short_so 16 reason bytes (omega arith) h
-value_so format order forms.Strp reason bytes h = short_so (offset_size format) reason bytes (small_offset format) h
-value_so format order forms.LineStrp reason bytes h = short_so (offset_size format) reason bytes (small_offset format) h
-value_so format order forms.Udata reason bytes h = leb_so reason bytes h
-value_so format order forms.Text reason bytes h = text_so reason bytes h
-value_so format order forms.Block reason bytes h = block_so reason bytes h
-value_so format order forms.Block1 reason bytes h = sized_so order 1 reason bytes (omega arith) h
-value_so format order forms.Block2 reason bytes h = sized_so order 2 reason bytes (omega arith) h
-value_so format order forms.Block4 reason bytes h = sized_so order 4 reason bytes (omega arith) h
+value_is_wrong format order forms.Data1 reason bytes h = short_is_wrong 1 reason bytes (omega arith) h
+value_is_wrong format order forms.Data2 reason bytes h = short_is_wrong 2 reason bytes (omega arith) h
+value_is_wrong format order forms.Data4 reason bytes h = short_is_wrong 4 reason bytes (omega arith) h
+value_is_wrong format order forms.Data8 reason bytes h = short_is_wrong 8 reason bytes (omega arith) h
+value_is_wrong format order forms.Data16 reason bytes h = short_is_wrong 16 reason bytes (omega arith) h
+value_is_wrong format order forms.Strp reason bytes h = short_is_wrong (offset_size format) reason bytes (small_offset format) h
+value_is_wrong format order forms.LineStrp reason bytes h = short_is_wrong (offset_size format) reason bytes (small_offset format) h
+value_is_wrong format order forms.Udata reason bytes h = leb_is_wrong reason bytes h
+value_is_wrong format order forms.Text reason bytes h = text_is_wrong reason bytes h
+value_is_wrong format order forms.Block reason bytes h = block_is_wrong reason bytes h
+value_is_wrong format order forms.Block1 reason bytes h = sized_is_wrong order 1 reason bytes (omega arith) h
+value_is_wrong format order forms.Block2 reason bytes h = sized_is_wrong order 2 reason bytes (omega arith) h
+value_is_wrong format order forms.Block4 reason bytes h = sized_is_wrong order 4 reason bytes (omega arith) h
 
 -- after bytes of which nothing is asked
 pub wrong_after : (reason : Reason) (prefix past before left : List ℕ) → before ≡ prefix ++ past → IsWrongTable reason past left
@@ -106,7 +107,7 @@ wrong_here : (reason : Reason) (before left : List ℕ) → before ≡ [] → Is
 wrong_here reason before left e h = subst (λ (z : List ℕ). IsWrongTable reason z left) (sym e) h
 
 wrong_number : (reason : Reason) (before left : List ℕ) → IsNumberFault reason before left → IsWrongTable reason before left
-wrong_number reason before left h = wrong_here reason before left h.0 (leb_so reason left h.1)
+wrong_number reason before left h = wrong_here reason before left h.0 (leb_is_wrong reason left h.1)
 
 wrong_code : (reason : Reason) (before left : List ℕ) → IsCodeFault reason before left → IsWrongTable reason before left
 wrong_code reason before left (no_code h) = wrong_number reason before left h
@@ -121,7 +122,7 @@ wrong_pair reason before left (second content prefix past p e h) =
 wrong_entry : (format : Format) (order : Order) (pairs : List Pair) (reason : Reason) (before left : List ℕ)
     → IsEntryFault format order pairs reason before left → IsWrongTable reason before left
 wrong_entry format order pairs reason before left (no_value done pair past values e p h) =
-    wrong_after reason before [] before left (sym (append-nil before)) (value_so format order pair.form reason left h)
+    wrong_after reason before [] before left (sym (append-nil before)) (value_is_wrong format order pair.form reason left h)
 
 no_pairs : (pairs : List Pair) (x : List ℕ) → Each PairBytes pairs x → pairs ≡ [] → x ≡ []
 no_pairs [] x p e = p
@@ -146,7 +147,7 @@ wrong_after_pairs format order n pairs count kinds past left reason p q
 
 pub wrong_table : (format : Format) (order : Order) (reason : Reason) (before left : List ℕ) → IsTableFault format order reason before left
     → IsWrongTable reason before left
-wrong_table format order reason before left (first h) = wrong_here reason before left h.0 (short_so 1 reason left (omega arith) h.1)
+wrong_table format order reason before left (first h) = wrong_here reason before left h.0 (short_is_wrong 1 reason left (omega arith) h.1)
 wrong_table format order reason before left (second n prefix past p e (first (next pairs done more lt each e2 h))) =
     wrong_after reason prefix past before left e (wrong_after reason done more past left e2 (wrong_pair reason more left h))
 wrong_table format order reason before left (second n prefix past p e (second pairs kinds more q e2 h)) =

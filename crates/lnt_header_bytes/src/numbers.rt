@@ -10,14 +10,14 @@ ghost use Rattle.lnt_header_bytes.specs.Stepping.{ByteOf, IsByteFault};
 use lnt_header::{LAST_KNOWN, NumberParts, known_length};
 use lnt_wire::{Cursor, Fault, Items, Order, Reason};
 
-/// The six numbers of one byte before the standard opcode lengths, with `max_ops` 1 where a version has no such field.
+/// The six numbers of one byte before the standard opcode lengths. `max_ops` is 1 if the version has no such field.
 #[derive(Clone, Copy, Debug)]
 pub struct Singles {
     /// How many bytes the smallest instruction has.
     pub minimum_instruction_length: u8,
     /// `maximum_operations_per_instruction`: how many operations an instruction has at most.
     pub max_ops: u8,
-    /// Whether a row begins a statement by default: where it isn't 0.
+    /// Whether a row begins a statement by default: if it isn't 0.
     pub default_is_stmt: u8,
     /// The least number that a special opcode adds to the line.
     pub line_base: i8,
@@ -66,7 +66,7 @@ pub fn numbers_of(
 }
 
 /// Reads the fields of one byte before the standard opcode lengths, of a version with or without `max_ops`. It refuses the first of
-/// them that is 0 and may not be, at that field, and with `Truncated` where there are fewer, at their end.
+/// them that is 0 and may not be, at that field, and with `Truncated` if there are fewer, at their end.
 #[tactic(auto, using(crate::proofs::SoundLemmas::singles_read, crate::proofs::SoundLemmas::singles_refused))]
 pub fn read_singles(cursor: &mut Cursor<'_>, has_max_ops: bool) -> Result<Singles, Fault>
     ensures ok { IfOk result (λ s. Reads (SinglesBytes has_max_ops) s cursor.old cursor.new) }
@@ -88,7 +88,7 @@ fn read_bytes<'a>(cursor: &mut Cursor<'a>, has_max_ops: bool) -> Result<&'a [u8]
     }
 }
 
-// Why each of the fields may not be 0, where it may not.
+// Why each of the fields may not be 0, if it may not.
 const ZERO_REASONS: [Option<Reason>; 6] = [
     None,
     Some(Reason::MaxOpsZero),
@@ -133,7 +133,7 @@ fn singles_of(has_max_ops: bool, bytes: &[u8]) -> Singles
     }
 }
 
-// Reads a byte for each field, which is told why it may not be 0, where it may not.
+// Reads a byte for each field. The reason says why it may not be 0, if it may not.
 #[tactic(auto, using(crate::proofs::SoundLemmas::sound_walk))]
 fn read_sound<'a>(
     cursor: &mut Cursor<'a>,

@@ -298,9 +298,9 @@ pass_quiet {dead = dead} p step on fits place begun =
 
 -- ---- the beginning, and the end
 
-pub pass_none : {dead : Option ℕ} {view : View} {walk : Walk} {light : Light} {passed : List Passed} → walk.header ≡ view.header.numbers
+pub pass_none : {dead : Option ℕ} {view : View} {walk : Walk} {light : Light} {passed : List Passed} → walk.numbers ≡ view.header.numbers
     → walk.failed ≡ false → walk.at.place ≡ view.place → walk.at.rest ≡ view.program → walk.at.order ≡ view.header.numbers.order
-    → light.run.machine.header ≡ view.header.numbers → HasDone light.run [] → light.run.machine.count ≡ 0 → light.place ≡ 0
+    → light.run.machine.numbers ≡ view.header.numbers → HasDone light.run [] → light.run.machine.count ≡ 0 → light.place ≡ 0
     → light.begun ≡ record { has_row = false; low = 0; last = 0 } → passed ≡ [] → HasPassed dead view walk light passed
 pass_none {dead} {view} {walk} {light} {passed} same going place rest order header has count from begun none =
     let watch : Watch = record {

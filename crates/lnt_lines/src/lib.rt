@@ -16,8 +16,8 @@
 #![tactic(auto)]
 
 mod draft;
-mod gather;
 mod index;
+mod index_lines;
 mod judge;
 pub mod laws;
 mod light;

@@ -156,11 +156,11 @@ impl<'a> Light<'a> {
     // Does an operation, after which `left` bytes of the program remain.
     #[inline(always)]
     fn step(&mut self, op: &OpView<'_>, left: usize, passed: &mut Vec<Passed>) -> bool
-        requires allowed { (done : Op) × StandsFor op.now done × Admits self.old.run.machine.header done }
+        requires allowed { (done : Op) × StandsFor op.now done × Admits self.old.run.machine.numbers done }
         requires left { left ≤ self.old.length }
         ensures length { self.new.length ≡ self.old.length }
         ensures files { self.new.files ≡ self.old.files }
-        ensures header { IsTrue result → self.new.run.machine.header ≡ self.old.run.machine.header }
+        ensures header { IsTrue result → self.new.run.machine.numbers ≡ self.old.run.machine.numbers }
         ensures passes { IsTrue result → PassesBy op.now left self.old self.new passed.old.items passed.new.items }
     {
         match self.run.step(op) {
@@ -208,11 +208,11 @@ impl<'a> Light<'a> {
     // Does the next operations while they are short.
     #[inline(always)]
     fn step_short(&mut self, ops: &mut Ops<'_>, passed: &mut Vec<Passed>) -> bool
-        requires header { self.old.run.machine.header ≡ ops.old.header }
+        requires header { self.old.run.machine.numbers ≡ ops.old.numbers }
         requires left { length ops.old.at.rest ≤ self.old.length }
         ensures length { self.new.length ≡ self.old.length }
         ensures files { self.new.files ≡ self.old.files }
-        ensures header { IsTrue result → self.new.run.machine.header ≡ ops.new.header }
+        ensures header { IsTrue result → self.new.run.machine.numbers ≡ ops.new.numbers }
         ensures no_longer { length ops.new.at.rest ≤ length ops.old.at.rest }
         ensures passes { IsTrue result → PassesTo ops.old ops.new self.old self.new passed.old.items passed.new.items }
     {

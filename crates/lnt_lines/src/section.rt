@@ -7,8 +7,8 @@ ghost use Rattle.lnt_unit.specs.Readers.{loan_of, offset_of, order_of, progress_
 ghost use Rattle.lnt_io.specs.Stopping.{CountsFailure, IsTooLongOn};
 
 use crate::draft::Draft;
-use crate::gather::lines_of;
 use crate::index::Index;
+use crate::index_lines::lines_of;
 use crate::lines::Lines;
 use crate::no::No;
 use crate::options::Options;

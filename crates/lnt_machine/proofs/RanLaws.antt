@@ -32,8 +32,8 @@ pub fails_op : {fault : Fault} {given : Result OpView Fault} {old new : Walk} �
 fails_op {old = old} {new = new} is step = subst (λ (r : Result OpView Fault). WalkStep old (Some r) new) is step
 
 -- what the machine may do, where its header is that of the walk
-pub may_step : (item : OpView) (machine : MachineState) (old new : Walk) → machine.header ≡ old.header → GivesOperation item old new
-    → (op : Op) × StandsFor item op × Admits machine.header op
+pub may_step : (item : OpView) (machine : MachineState) (old new : Walk) → machine.numbers ≡ old.numbers → GivesOperation item old new
+    → (op : Op) × StandsFor item op × Admits machine.numbers op
 may_step item machine old new same step =
     (step.gives.op, step.gives.stands, subst (λ (h : NumberParts). Admits h step.gives.op) (sym same) step.gives.admitted)
 
@@ -63,7 +63,7 @@ lines_next h ops op fit here =
 
 -- ---- operations that were run
 
-pub ran_first : {h : NumberParts} {run : RunState} → run.machine.header ≡ h → HasDone run [] → run.machine.count ≡ 0 → HasRan h [] run
+pub ran_first : {h : NumberParts} {run : RunState} → run.machine.numbers ≡ h → HasDone run [] → run.machine.count ≡ 0 → HasRan h [] run
 ran_first {h} {run} header has count = record {
   header_is = header;
   stands = has.machine;
@@ -129,7 +129,7 @@ module _ {h : NumberParts} {ops : List Op} {run run' : RunState} {item : OpView}
   pub ran_next : length ops + 1 < 2 ^ 64 → HasRan h (ops ++ op ∷ []) run'
   ran_next few =
       let after : StandsAfter run'.machine (op ∷ reverse ops) = on.machine.stands (reverse ops) op ran.stands stands in
-      let header : run'.machine.header ≡ h = on.machine.header ∙ ran.header_is in
+      let header : run'.machine.numbers ≡ h = on.machine.numbers ∙ ran.header_is in
       let cut = cut_next (rows_of_ops h ops) ran.left ran.ended run.is_open made ran.cut ran.open_is in
       record {
         header_is = header;

@@ -79,13 +79,13 @@ bounded_initial h valid = record { address = pow_pos (8 * h.address_size); op_in
 
 -- the state of a machine
 abbrev state : NumberParts → Row → ℕ → MachineState
-state h registers count = record { header = h; registers = registers; count = count }
+state h registers count = record { numbers = h; registers = registers; count = count }
 
 pub step_bounded : (machine : MachineState) (h : NumberParts) (view : OpView) (old new : Row) (row : Option Row) (m : ℕ)
     → state h old m ≡ machine
-    → (o : Op) × StandsFor view o × Admits machine.header o → IsBounded h old → Changes h (plain view) old new row → IsBounded h new
+    → (o : Op) × StandsFor view o × Admits machine.numbers o → IsBounded h old → Changes h (plain view) old new row → IsBounded h new
 step_bounded machine h view old new row m e (o, w, admits) b c =
-    let a : IsAllowed h (plain view) = allowed h view o w (subst (λ (x : MachineState). Admits x.header o) (sym e) admits) in
+    let a : IsAllowed h (plain view) = allowed h view o w (subst (λ (x : MachineState). Admits x.numbers o) (sym e) admits) in
     subst (IsBounded h) (sym c.new_is) (bounded_changed h old (plain view) b a c.line)
 
 -- it stands after the operation too
@@ -113,15 +113,15 @@ row_more h view old new row m back op b c s v =
 
 pub steps : (machine : MachineState) (h : NumberParts) (view : OpView) (old new : Row) (row : Option Row) (m n : ℕ)
     → state h old m ≡ machine
-    → (o : Op) × StandsFor view o × Admits machine.header o → IsBounded h old → Changes h (plain view) old new row
+    → (o : Op) × StandsFor view o × Admits machine.numbers o → IsBounded h old → Changes h (plain view) old new row
     → n ≡ min (m + 1) (2 ^ 64 - 1)
     → Steps view machine (state h new n) row
 steps machine h view old new row m n e (o, w, admits) b c count =
-    let a : IsAllowed h (plain view) = allowed h view o w (subst (λ (x : MachineState). Admits x.header o) (sym e) admits) in
+    let a : IsAllowed h (plain view) = allowed h view o w (subst (λ (x : MachineState). Admits x.numbers o) (sym e) admits) in
     subst (λ (x : MachineState). Steps view x (state h new n) row) e (record {
       stands = λ back op s v. stands_more h view old new row m n back op b a c s v;
       row_is = λ back op s v. row_more h view old new row m back op b c s v;
-      header = refl;
+      numbers = refl;
       count = count;
     })
 
@@ -139,5 +139,5 @@ step_refused machine h view old m e out = subst (LeavesRange view) e (λ back op
 
 pub step_in_range : (machine : MachineState) (h : NumberParts) (view : OpView) (old : Row) (m : ℕ) → state h old m ≡ machine
     → (IsLine (line_reached h old (plain view)) → ⊥)
-    → (back : List Op) (op : Op) → StandsAfter machine back → StandsFor view op → IsLine (line machine.header (op ∷ back)) → false ≡ true
+    → (back : List Op) (op : Op) → StandsAfter machine back → StandsFor view op → IsLine (line machine.numbers (op ∷ back)) → false ≡ true
 step_in_range machine h view old m e out back op s v fits = absurd (step_refused machine h view old m e out back op s v fits)

@@ -42,7 +42,7 @@ module _ {h : NumberParts} {rows : List Row} {view : OpView} {old new : Walk} {m
           back = next.op ∷ has.back;
           later = next.others;
           valid = has.valid;
-          header_is = steps.header ∙ has.header_is;
+          header_is = steps.numbers ∙ has.header_is;
           stands = steps.stands has.back next.op has.stands next.stands;
           left = next.left;
           lines = lines.1;
@@ -137,7 +137,7 @@ short_out old view new going step leaves rows (some h all e has are) = next_out 
 pub has_begun : (h : NumberParts) (program : List ℕ) (earlier later : List Op) (place : ℕ) (machine : MachineState) (walk : Walk)
     → AreHeaderNumbers h
     → IsSequencePlace h program earlier later place
-    → machine.header ≡ h → StandsAfter machine [] → walk.header ≡ h → walk.failed ≡ false → walk.at.rest ≡ drop place program
+    → machine.numbers ≡ h → StandsAfter machine [] → walk.numbers ≡ h → walk.failed ≡ false → walk.at.rest ≡ drop place program
     → HasRows h (rows_after h (reverse earlier) later) machine walk
 has_begun h program earlier later place machine walk valid is header stands same going rest = record {
   back = reverse earlier;
@@ -153,7 +153,7 @@ has_begun h program earlier later place machine walk valid is header stands same
 -- the rows of a sequence that begins
 pub will_give : (h : NumberParts) (program : List ℕ) (earlier later : List Op) (place : ℕ) (walk : SequenceWalk) → AreHeaderNumbers h
     → IsSequencePlace h program earlier later place
-    → walk.machine.header ≡ h → StandsAfter walk.machine [] → walk.walk.header ≡ h → walk.walk.failed ≡ false
+    → walk.machine.numbers ≡ h → StandsAfter walk.machine [] → walk.walk.numbers ≡ h → walk.walk.failed ≡ false
     → walk.walk.at.rest ≡ drop place program → walk.ended ≡ false
     → WillGive (first_sequence (rows_after h (reverse earlier) later)) walk
 will_give h program earlier later place walk valid is header stands same going rest ended =

@@ -7,17 +7,17 @@ use Rattle.lnt_header.specs.declared.op.OpView.{OpView}
 use Rattle.lnt_header.specs.OpRules.{StandsFor}
 use Rattle.lnt_machine.specs.Matrix.{row_made, Row}
 
--- the header with which operations are read, the registers, and the number of operations done
+-- the numbers of the header with which operations are read, the registers, and the number of operations done
 pub record MachineState : Type 0 where
-  pub header : NumberParts
+  pub numbers : NumberParts
   pub registers : Row
   pub count : ℕ
 
 -- The machine stands after the operations of `back`, the newest first: its registers are those that these operations give,
 -- and their line is in range.
 pub record StandsAfter (machine : MachineState) (back : List Op) : Type 0 where
-  pub registers : machine.registers ≡ registers_after machine.header back
-  pub line : IsLine (line machine.header back)
+  pub registers : machine.registers ≡ registers_after machine.numbers back
+  pub line : IsLine (line machine.numbers back)
 
 -- the bounds of the registers of every machine
 pub record IsBounded (h : NumberParts) (registers : Row) : Type 0 where
@@ -32,11 +32,11 @@ pub record IsBounded (h : NumberParts) (registers : Row) : Type 0 where
 -- greatest number.
 pub record Steps (view : OpView) (old new : MachineState) (row : Option Row) : Type 0 where
   pub stands : (back : List Op) (op : Op) → StandsAfter old back → StandsFor view op → StandsAfter new (op ∷ back)
-  pub row_is : (back : List Op) (op : Op) → StandsAfter old back → StandsFor view op → row ≡ row_made old.header back op
-  pub header : new.header ≡ old.header
+  pub row_is : (back : List Op) (op : Op) → StandsAfter old back → StandsFor view op → row ≡ row_made old.numbers back op
+  pub numbers : new.numbers ≡ old.numbers
   pub count : new.count ≡ min (old.count + 1) (2 ^ 64 - 1)
 
 -- For each list after which the machine stands, the line is out of range with this operation appended.
 abbrev pub LeavesRange : OpView → MachineState → Type 0
 LeavesRange view machine =
-    (back : List Op) (op : Op) → StandsAfter machine back → StandsFor view op → IsLine (line machine.header (op ∷ back)) → ⊥
+    (back : List Op) (op : Op) → StandsAfter machine back → StandsFor view op → IsLine (line machine.numbers (op ∷ back)) → ⊥

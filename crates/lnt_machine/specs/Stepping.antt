@@ -25,7 +25,7 @@ ComesNext h rows (Some made) machine walk = GivesNext h rows (Some made) machine
 -- These operations were run, the oldest first, with no line out of range. Their rows are those of sequences, and those after the last
 -- end row.
 pub record HasRan (h : NumberParts) (ops : List Op) (run : RunState) : Type 0 where
-  pub header_is : run.machine.header ≡ h
+  pub header_is : run.machine.numbers ≡ h
   pub stands : StandsAfter run.machine (reverse ops)
   pub count : run.machine.count ≡ length ops
   pub lines : LinesFit h ops (length ops)

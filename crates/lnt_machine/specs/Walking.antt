@@ -21,7 +21,7 @@ pub record HasRows (h : NumberParts) (rows : List Row) (machine : MachineState) 
   pub back : List Op
   pub later : List Op
   pub valid : AreHeaderNumbers h
-  pub header_is : machine.header ≡ h
+  pub header_is : machine.numbers ≡ h
   pub stands : StandsAfter machine back
   pub left : OperationsAreLeft h later walk
   pub lines : LinesAfter h back later

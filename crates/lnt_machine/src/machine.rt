@@ -13,7 +13,7 @@ use std::marker::Model;
 
 /// The registers of a line number program between two of its operations, and the number of operations done.
 ///
-/// Contracts see the header, the registers and the count (`MachineState`). A machine stands after a list of operations
+/// Contracts see the header's numbers, the registers and the count (`MachineState`). A machine stands after a list of operations
 /// (`StandsAfter`) if each register has the value that DWARF 5, sections 6.2.2 and 6.2.5, gives it after that list. That is
 /// a sum over the list, or the value that the last operation of a kind sets. The count stays at `u64::MAX` once it has
 /// reached it.
@@ -32,7 +32,7 @@ impl<'a> Model for Machine<'a> {
 
     ghost Value = { MachineState };
 
-    ghost view = { λ m. record { header = m.numbers.now; registers = m.registers; count = m.count } };
+    ghost view = { λ m. record { numbers = m.numbers.now; registers = m.registers; count = m.count } };
 
     ghost invariant = { λ m. IsBounded m.numbers.now m.registers × (m.reciprocal ≡ 65536 / m.numbers.now.line_range + 1) };
 }
@@ -41,7 +41,7 @@ impl<'a> Machine<'a> {
     /// A machine before the first operation of a program with this header: it stands after the empty list. Allocates
     /// nothing.
     pub fn new(header: &'a Header) -> Machine<'a>
-        ensures header { result.header ≡ header.entry.now.numbers }
+        ensures header { result.numbers ≡ header.entry.now.numbers }
         ensures stands { StandsAfter result [] }
         ensures count { result.count ≡ 0 }
     {
@@ -51,7 +51,7 @@ impl<'a> Machine<'a> {
     /// A machine before the first operation of a program whose header has these numbers, as [`Machine::new`]. Allocates
     /// nothing.
     pub fn with_numbers(numbers: &'a HeaderNumbers) -> Machine<'a>
-        ensures header { result.header ≡ numbers.entry.now }
+        ensures header { result.numbers ≡ numbers.entry.now }
         ensures stands { StandsAfter result [] }
         ensures count { result.count ≡ 0 }
     {
@@ -92,12 +92,12 @@ impl<'a> Machine<'a> {
     /// then unchanged. Allocates nothing.
     #[inline(always)]
     pub fn step(&mut self, view: &OpView<'_>) -> Result<Option<Row>, RunFault>
-        requires { (op : Op) × StandsFor view.now op × Admits self.old.header op }
+        requires { (op : Op) × StandsFor view.now op × Admits self.old.numbers op }
         ensures ok { IfOk result (Steps view.now self.old self.new) }
 
         // Fails if and only if the line leaves its range, with the operation's index.
         ensures in_range { (back : List Op) (op : Op) → StandsAfter self.old back → StandsFor view.now op
-            → IsLine (line self.old.header (op ∷ back)) → IsOk result }
+            → IsLine (line self.old.numbers (op ∷ back)) → IsOk result }
         ensures out_of_range { OnErr result (LeavesRange view.now self.old) }
         ensures fault { IfErr result (λ fault. fault ≡ RunFault.LineOutOfRange self.old.count) }
         ensures unchanged { OnErr result (self.new ≡ self.old) }
@@ -113,10 +113,10 @@ impl<'a> Machine<'a> {
     // Does an operation as `step` does. True if it appends a row, which is then put into `row`; else nothing is said of `row`.
     #[inline(always)]
     pub(crate) fn step_into(&mut self, view: &OpView<'_>, row: &mut Row) -> Result<bool, RunFault>
-        requires { (op : Op) × StandsFor view.now op × Admits self.old.header op }
+        requires { (op : Op) × StandsFor view.now op × Admits self.old.numbers op }
         ensures ok { IfOk result (λ appends. Steps view.now self.old self.new (if appends then Some row.new else None)) }
         ensures in_range { (back : List Op) (op : Op) → StandsAfter self.old back → StandsFor view.now op
-            → IsLine (line self.old.header (op ∷ back)) → IsOk result }
+            → IsLine (line self.old.numbers (op ∷ back)) → IsOk result }
         ensures out_of_range { OnErr result (LeavesRange view.now self.old) }
         ensures fault { IfErr result (λ fault. fault ≡ RunFault.LineOutOfRange self.old.count) }
         ensures unchanged { OnErr result (self.new ≡ self.old) }

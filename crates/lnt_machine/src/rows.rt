@@ -36,7 +36,7 @@ impl<'a> Model for Rows<'a> {
 
     ghost view = { λ r. record { run = r.run; walk = r.ops; ended = r.ended } };
 
-    ghost invariant = { λ r. r.run.machine.header ≡ r.ops.header };
+    ghost invariant = { λ r. r.run.machine.numbers ≡ r.ops.numbers };
 }
 
 impl<'a> Rows<'a> {
@@ -45,8 +45,8 @@ impl<'a> Rows<'a> {
 
     /// The rows of these operations, which are all those of a unit with this header.
     pub fn new(numbers: &'a HeaderNumbers, ops: Ops<'a>) -> Rows<'a>
-        requires { ops.header ≡ numbers.now }
-        ensures header { result.run.machine.header ≡ numbers.entry.now }
+        requires { ops.numbers ≡ numbers.now }
+        ensures header { result.run.machine.numbers ≡ numbers.entry.now }
         ensures done { HasDone result.run [] }
         ensures count { result.run.machine.count ≡ 0 }
         ensures walk { result.walk ≡ ops.entry }
@@ -91,8 +91,8 @@ impl<'a> FusedIterator for Rows<'a> {}
 // The row of the next operation that appends one. `None` if the program has ended and no rows are open.
 #[inline(always)]
 fn next_row(run: &mut Run<'_>, ops: &mut Ops<'_>) -> Result<Option<Row>, RowFault>
-    requires { run.old.machine.header ≡ ops.old.header }
-    ensures same { run.new.machine.header ≡ ops.new.header }
+    requires { run.old.machine.numbers ≡ ops.old.numbers }
+    ensures same { run.new.machine.numbers ≡ ops.new.numbers }
     ensures shorter { IfOk result (λ made. IfSome made (λ row. length ops.new.at.rest < length ops.old.at.rest)) }
     ensures ok { IfOk result (λ made. Comes made run.old ops.old run.new ops.new) }
     ensures err { IfErr result (λ fault. Stops fault run.old ops.old run.new ops.new) }

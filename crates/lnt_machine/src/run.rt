@@ -33,7 +33,7 @@ impl<'a> Model for Run<'a> {
 impl<'a> Run<'a> {
     /// A program with this header, before its first operation. Allocates nothing.
     pub fn new(numbers: &'a HeaderNumbers) -> Run<'a>
-        ensures header { result.machine.header ≡ numbers.entry.now }
+        ensures header { result.machine.numbers ≡ numbers.entry.now }
         ensures done { HasDone result [] }
         ensures count { result.machine.count ≡ 0 }
     {
@@ -49,12 +49,12 @@ impl<'a> Run<'a> {
     /// unchanged. Allocates nothing.
     #[inline(always)]
     pub fn step(&mut self, view: &OpView<'_>) -> Result<Option<Row>, RunFault>
-        requires { (op : Op) × StandsFor view.now op × Admits self.old.machine.header op }
+        requires { (op : Op) × StandsFor view.now op × Admits self.old.machine.numbers op }
         ensures ok { IfOk result (RunsOn view.now self.old self.new) }
 
         // Fails if and only if the line leaves its range, with the operation's index.
         ensures in_range { (back : List Op) (op : Op) → StandsAfter self.old.machine back → StandsFor view.now op
-            → IsLine (line self.old.machine.header (op ∷ back)) → IsOk result }
+            → IsLine (line self.old.machine.numbers (op ∷ back)) → IsOk result }
         ensures out_of_range { OnErr result (LeavesRange view.now self.old.machine) }
         ensures fault { IfErr result (λ fault. fault ≡ RunFault.LineOutOfRange self.old.machine.count) }
         ensures unchanged { OnErr result (self.new ≡ self.old) }

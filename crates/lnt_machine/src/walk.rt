@@ -32,7 +32,7 @@ impl<'a> Model for SequenceRows<'a> {
 
     ghost view = { λ s. record { machine = s.machine; walk = s.ops; ended = s.ended } };
 
-    ghost invariant = { λ s. s.machine.header ≡ s.ops.header };
+    ghost invariant = { λ s. s.machine.numbers ≡ s.ops.numbers };
 }
 
 impl<'a> SequenceRows<'a> {
@@ -130,8 +130,8 @@ impl<'a> Iterator for SequenceRows<'a> {
 // Puts the next row that the operations append into `row`. False if they append none; then nothing is said of `row`.
 #[inline(always)]
 fn next_row(machine: &mut Machine<'_>, ops: &mut Ops<'_>, row: &mut Row) -> bool
-    requires { machine.old.header ≡ ops.old.header }
-    ensures same { machine.new.header ≡ ops.new.header }
+    requires { machine.old.numbers ≡ ops.old.numbers }
+    ensures same { machine.new.numbers ≡ ops.new.numbers }
     ensures shorter { IsTrue result → length ops.new.at.rest < length ops.old.at.rest }
     ensures gives { (h : NumberParts) (rows : List spec.Row) → HasRows h rows machine.old ops.old
         → GivesNext h rows (if result then Some row.new else None) machine.new ops.new }
@@ -146,8 +146,8 @@ fn next_row(machine: &mut Machine<'_>, ops: &mut Ops<'_>, row: &mut Row) -> bool
 #[tactic(auto, using(crate::proofs::RanLaws::may_step))]
 #[inline(never)]
 fn any_row(machine: &mut Machine<'_>, ops: &mut Ops<'_>, row: &mut Row) -> bool
-    requires { machine.old.header ≡ ops.old.header }
-    ensures same { machine.new.header ≡ ops.new.header }
+    requires { machine.old.numbers ≡ ops.old.numbers }
+    ensures same { machine.new.numbers ≡ ops.new.numbers }
     ensures shorter { IsTrue result → length ops.new.at.rest < length ops.old.at.rest }
     ensures gives { (h : NumberParts) (rows : List spec.Row) → HasRows h rows machine.old ops.old
         → GivesNext h rows (if result then Some row.new else None) machine.new ops.new }
@@ -171,8 +171,8 @@ fn any_row(machine: &mut Machine<'_>, ops: &mut Ops<'_>, row: &mut Row) -> bool
 #[tactic(auto, using(crate::proofs::RanLaws::may_step))]
 #[inline(always)]
 fn short_row(machine: &mut Machine<'_>, ops: &mut Ops<'_>, row: &mut Row) -> bool
-    requires { machine.old.header ≡ ops.old.header }
-    ensures same { machine.new.header ≡ ops.new.header }
+    requires { machine.old.numbers ≡ ops.old.numbers }
+    ensures same { machine.new.numbers ≡ ops.new.numbers }
     ensures no_longer { length ops.new.at.rest ≤ length ops.old.at.rest }
     ensures shorter { IsTrue result → length ops.new.at.rest < length ops.old.at.rest }
     ensures gives { (h : NumberParts) (rows : List spec.Row) → HasRows h rows machine.old ops.old

@@ -59,10 +59,12 @@ pub numbers_missing : (version : OlderVersion) (format : Format) (old : At) (fau
 numbers_missing version format old fault r = first_refused (SinglesBytes (has_max_ops version)) (AfterNumbers format old.order) old fault r
 
 after_numbers : (version : OlderVersion) (format : Format) (n : Singles) (old m1 : At) (fault : Fault)
-    → Reads (SinglesBytes (has_max_ops version)) n old m1 → Refuses (AfterNumbersFault format m1.order n) (AfterNumbers format m1.order n) m1 fault
+    → Reads (SinglesBytes (has_max_ops version)) n old m1
+    → Refuses (AfterNumbersFault format m1.order n) (AfterNumbers format m1.order n) m1 fault
     → Refuses (IsFieldsFault version format old.order) (FieldsOf version format old.order) old fault
 after_numbers version format n old m1 fault r t =
-    second_refused (AfterNumbersFault format) (SinglesBytes (has_max_ops version)) (AfterNumbers format) n old m1 fault (singles_code (has_max_ops version)) r t
+    second_refused (AfterNumbersFault format) (SinglesBytes (has_max_ops version)) (AfterNumbers format) n old m1 fault
+    (singles_code (has_max_ops version)) r t
 
 pub lengths_missing : (version : OlderVersion) (format : Format) (n : Singles) (old m1 : At) (fault : Fault)
     → Reads (SinglesBytes (has_max_ops version)) n old m1 → Refuses (IsLengthsFault n.opcode_base) (LengthsBytes n.opcode_base) m1 fault

@@ -9,7 +9,8 @@ use Rattle.lnt_header.specs.HeaderRules.{AreHeaderNumbers, IsAddressSize}
 use Rattle.lnt_header.specs.Parts.{HeaderParts}
 use Rattle.lnt_header.specs.declared.numbers.NumberParts.{NumberParts}
 use Rattle.lnt_header_bytes.specs.HeaderFaults.{LengthsBytes}
-use Rattle.lnt_older.specs.OlderBytes.{has_max_ops, body_bytes, directory_pairs, file_pairs, ListBytes, OlderBytesIn, OlderFieldsBytes, OlderVersion}
+use Rattle.lnt_older.specs.OlderBytes.{body_bytes, directory_pairs, file_pairs, has_max_ops}
+use Rattle.lnt_older.specs.OlderBytes.{ListBytes, OlderBytesIn, OlderFieldsBytes, OlderVersion}
 use Rattle.lnt_header_bytes.specs.HeaderFaults.{SinglesBytes, single_fields}
 use Rattle.lnt_header_bytes.proofs.HeaderFrames.{singles_of}
 use Rattle.lnt_older.specs.OlderFields.{header_of}

@@ -39,7 +39,8 @@ module _ (format : Format) (order : Order) (pairs : List Pair) where
 
   next_none : (reason : Reason) (before left : List ℕ) → IsNextFault reason before left
       → NoneSpelled (ListedBytes format order pairs) (before ++ left)
-  next_none reason before left (of_entry begins h) entry x more p e = (entry_fault format order pairs).none reason before left h entry x more p.spelled e
+  next_none reason before left (of_entry begins h) entry x more p e =
+      (entry_fault format order pairs).none reason before left h entry x more p.spelled e
   next_none reason before left (of_end nothing ends is) entry x more p e =
       nothing_begins (before ++ left) (rw (nothing, ends) refl) (begins_prefix x more (before ++ left) p.some (sym e))
 

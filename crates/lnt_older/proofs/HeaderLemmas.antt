@@ -9,7 +9,8 @@ use Rattle.lnt_header.specs.declared.header.Entry.{Entry}
 use Rattle.lnt_header.specs.Parts.{HeaderParts}
 use Rattle.lnt_header_bytes.specs.HeaderFaults.{LengthsBytes}
 use Rattle.lnt_older.specs.Lists.{PassesList}
-use Rattle.lnt_older.specs.OlderBytes.{has_max_ops, directory_pairs, file_pairs, older_bytes, OlderFieldsBytes, SaysOperations, OlderVersion}
+use Rattle.lnt_older.specs.OlderBytes.{directory_pairs, file_pairs, has_max_ops, older_bytes}
+use Rattle.lnt_older.specs.OlderBytes.{OlderFieldsBytes, OlderVersion, SaysOperations}
 use Rattle.lnt_older.specs.UnitReading.{ReadsParts}
 use Rattle.lnt_older.specs.OlderFields.{FieldsOf, header_of, IsReadHeader}
 use Rattle.lnt_header_bytes.specs.HeaderFaults.{SinglesBytes, single_fields}

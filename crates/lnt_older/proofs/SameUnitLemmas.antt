@@ -107,7 +107,8 @@ same_header version format order o p a b e =
     let x = o.extra.now in
     let y = p.extra.now in
     let all : n ++ (l ++ (d ++ (f ++ x))) ≡ m ++ (k ++ (c ++ (g ++ y))) = sym (regroup n l d f x) ∙ e ∙ regroup m k c g y in
-    let numbers = (singles_code (has_max_ops version)).one o.numbers p.numbers n m (l ++ (d ++ (f ++ x))) (k ++ (c ++ (g ++ y))) a.numbers b.numbers
+    let numbers = (singles_code (has_max_ops version)).one o.numbers p.numbers n m (l ++ (d ++ (f ++ x))) (k ++ (c ++ (g ++ y)))
+    a.numbers b.numbers
     all in
     let past = same_rest n m (l ++ (d ++ (f ++ x))) (k ++ (c ++ (g ++ y))) numbers.1 all in
     let base : o.numbers.opcode_base ≡ p.numbers.opcode_base = ap (λ q. q.opcode_base) numbers.0 in

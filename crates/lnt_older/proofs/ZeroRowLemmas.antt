@@ -161,8 +161,8 @@ zero_next {h} {back} {op} {made} {bytes} {next} valid p index z =
 -- A walk over rows stands after these operations.
 pub record StandsIn (h : NumberParts) (back : List Op) (run : RunState) (walk : Walk) : Type 0 where
   pub valid : AreHeaderNumbers h
-  pub run_header : run.machine.header ≡ h
-  pub walk_header : walk.header ≡ h
+  pub run_header : run.machine.numbers ≡ h
+  pub walk_header : walk.numbers ≡ h
   pub going : walk.failed ≡ false
   pub done : HasDone run back
 
@@ -177,7 +177,7 @@ go_on : {h : NumberParts} {back : List Op} {item : OpView} {made : Option Row} {
 go_on {h} {back} {item} {made} {run} {run'} {walk} {walk'} s step on =
     let op = step.gives.op in
     let has = on.done back op s.done step.gives.stands in
-    let header : run'.machine.header ≡ h = on.machine.header ∙ s.run_header in
+    let header : run'.machine.numbers ≡ h = on.machine.numbers ∙ s.run_header in
     record {
       op = op;
       passes = record {
@@ -341,8 +341,8 @@ pub record IsSought (h : NumberParts) (program : List ℕ) (index : ℕ) (rows :
 zero_on : (k : ℕ) → 0 + k ≡ k
 zero_on k = omega arith
 
-pub sought_first : (h : NumberParts) (program : List ℕ) (rows : RowWalk) → AreHeaderNumbers h → rows.run.machine.header ≡ h
-    → HasDone rows.run [] → rows.walk.header ≡ h → rows.walk.at.rest ≡ program → rows.walk.failed ≡ false → rows.ended ≡ false
+pub sought_first : (h : NumberParts) (program : List ℕ) (rows : RowWalk) → AreHeaderNumbers h → rows.run.machine.numbers ≡ h
+    → HasDone rows.run [] → rows.walk.numbers ≡ h → rows.walk.at.rest ≡ program → rows.walk.failed ≡ false → rows.ended ≡ false
     → IsSought h program 0 rows
 sought_first h program rows valid run_header has walk_header rest going on = record {
   going = on;

@@ -41,7 +41,8 @@ AfterNumbersFault format order n = FirstOf (LengthsBytes n.opcode_base) (IsLengt
 
 -- the numbers, or what comes after them
 abbrev pub IsFieldsFault : OlderVersion → Format → Order → Reason → List ℕ → List ℕ → Type 0
-IsFieldsFault version format order = FirstOf (SinglesBytes (has_max_ops version)) (IsSinglesFault (has_max_ops version)) (AfterNumbersFault format order)
+IsFieldsFault version format order =
+    FirstOf (SinglesBytes (has_max_ops version)) (IsSinglesFault (has_max_ops version)) (AfterNumbersFault format order)
 
 -- ---- the header
 
@@ -61,7 +62,8 @@ pub record ListsLie (format : Format) (order : Order) (o : OlderHeader) (directo
 -- and the files, each list with a zero byte after it, and what else stands before the program
 abbrev pub header_spelling : OlderVersion → OlderHeader → List ℕ
 header_spelling version o =
-    single_fields (has_max_ops version) o.numbers ++ o.standard_lengths.now ++ (o.directories.bytes.now ++ 0 ∷ []) ++ (o.files.bytes.now ++ 0 ∷ [])
+    single_fields (has_max_ops version) o.numbers ++ o.standard_lengths.now ++ (o.directories.bytes.now ++ 0 ∷ [])
+    ++ (o.files.bytes.now ++ 0 ∷ [])
     ++ o.extra.now
 
 -- The header was read from these bytes, which header_length counts: they spell it, whatever size addresses have, its directories and

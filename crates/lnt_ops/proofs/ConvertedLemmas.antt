@@ -21,13 +21,13 @@ use Rattle.std.proofs.lemmas.Grind.{common_steps}
 -- the operations that a walk has given so far were added
 pub record ConvertedSoFar (h : NumberParts) (place : ℕ) (program : List ℕ) (order : Order) (old : List ℕ) (walk : Walk)
     (new : List ℕ) : Type 0 where
-  pub header_is : walk.header ≡ h
+  pub header_is : walk.numbers ≡ h
   pub going : walk.failed ≡ false
   pub ops : List Op
   pub so : OpsSoFar h place program ops walk.at
   pub adds : Appends (Each (OpBytes (in_order h order))) ops old new
 
-pub converted_none : (h : NumberParts) (place : ℕ) (program : List ℕ) (order : Order) (old : List ℕ) (walk : Walk) → walk.header ≡ h
+pub converted_none : (h : NumberParts) (place : ℕ) (program : List ℕ) (order : Order) (old : List ℕ) (walk : Walk) → walk.numbers ≡ h
     → walk.failed ≡ false → walk.at.place ≡ place → walk.at.rest ≡ program → walk.at.order ≡ h.order
     → ConvertedSoFar h place program order old walk old
 converted_none h place program order old walk same going placed rest ordered = grind (arith, common_steps, ops_none, each_begun)
@@ -50,7 +50,7 @@ converted_more h place program order size old middle new view walk next so step 
     }
 
 -- a view that a walk gives is one of the header's
-pub view_of_header : (h : NumberParts) (size : ℕ) (view : OpView) (walk next : Walk) → walk.header ≡ h → size ≡ h.address_size
+pub view_of_header : (h : NumberParts) (size : ℕ) (view : OpView) (walk next : Walk) → walk.numbers ≡ h → size ≡ h.address_size
     → GivesOperation view walk next → IsOpOf size view
 view_of_header h size view walk next same sized step = grind (arith, common_steps)
 

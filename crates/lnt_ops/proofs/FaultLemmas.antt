@@ -25,26 +25,27 @@ op_later address_size reason prefix before left (wrong_length earlier e b h) =
 
 -- ---- the first fault is a fault
 
-unsigned_so : (address_size : ℕ) (reason : Reason) (before bytes : List ℕ) → IsLebFault IsLargeUnsigned reason bytes
+unsigned_is_op_fault : (address_size : ℕ) (reason : Reason) (before bytes : List ℕ) → IsLebFault IsLargeUnsigned reason bytes
     → IsOpFault address_size reason before bytes
-unsigned_so address_size Truncated before bytes h = cut_field refl (leb h)
-unsigned_so address_size LebTooLarge before bytes h = large_number refl (h.0, h.1, h.2, h.4, inl h.3)
-unsigned_so address_size reason before bytes h = absurd h
+unsigned_is_op_fault address_size Truncated before bytes h = cut_field refl (leb h)
+unsigned_is_op_fault address_size LebTooLarge before bytes h = large_number refl (h.0, h.1, h.2, h.4, inl h.3)
+unsigned_is_op_fault address_size reason before bytes h = absurd h
 
-signed_so : (address_size : ℕ) (reason : Reason) (before bytes : List ℕ) → IsLebFault IsLargeSigned reason bytes
+signed_is_op_fault : (address_size : ℕ) (reason : Reason) (before bytes : List ℕ) → IsLebFault IsLargeSigned reason bytes
     → IsOpFault address_size reason before bytes
-signed_so address_size Truncated before bytes h = cut_field refl (leb h)
-signed_so address_size LebTooLarge before bytes h = large_number refl (h.0, h.1, h.2, h.4, inr h.3)
-signed_so address_size reason before bytes h = absurd h
+signed_is_op_fault address_size Truncated before bytes h = cut_field refl (leb h)
+signed_is_op_fault address_size LebTooLarge before bytes h = large_number refl (h.0, h.1, h.2, h.4, inr h.3)
+signed_is_op_fault address_size reason before bytes h = absurd h
 
 pub op_fault : (h : NumberParts) (reason : Reason) (before left : List ℕ) → IsFirstFault h reason before left
     → IsOpFault h.address_size reason before left
 op_fault h reason before left (no_opcode e b l) = cut_field e (number 1 (omega arith) (omega (arith, ap length l)))
-op_fault h reason before left (unsigned_operand k takes lt b p) = unsigned_so h.address_size reason before left p
-op_fault h reason before left (signed_operand k takes lt b p) = signed_so h.address_size reason before left p
+op_fault h reason before left (unsigned_operand k takes lt b p) = unsigned_is_op_fault h.address_size reason before left p
+op_fault h reason before left (signed_operand k takes lt b p) = signed_is_op_fault h.address_size reason before left p
 op_fault h reason before left (fixed_operand k e takes lt b short) = cut_field e (number 2 (omega arith) short)
-op_fault h reason before left (unknown_operand k operands spelling some lt each fewer b p) = unsigned_so h.address_size reason before left p
-op_fault h reason before left (no_length b p) = unsigned_so h.address_size reason before left p
+op_fault h reason before left (unknown_operand k operands spelling some lt each fewer b p) =
+    unsigned_is_op_fault h.address_size reason before left p
+op_fault h reason before left (no_length b p) = unsigned_is_op_fault h.address_size reason before left p
 op_fault h reason before left (cut_counted n spelling e p b short) = cut_field e (operation n [] spelling p b short)
 op_fault h reason before left (wrong_counted e b p) = wrong_length [] e b p
 op_fault h reason before left (large_counted spelling operand rest e p b l shape large) =

@@ -35,7 +35,7 @@ left_next h [] view old new header left s =
       ap length left.spelled,
       ap length r.whole,
       length-append r.spelling new.at.rest,
-      op_is_some old.header s.gives.op
+      op_is_some old.numbers s.gives.op
           r.spelling r.spelled,
     ))
 left_next h (op ∷ later) view old new header left s =
@@ -102,5 +102,5 @@ place_found h earlier all prefix rest program header p q whole = grind (arith, c
 -- a walk that begins at a place has the later operations before it
 pub left_at : (h : NumberParts) (program : List ℕ) (earlier later : List Op) (place : ℕ) (walk : Walk)
     → IsPlace h program earlier later place
-    → walk.header ≡ h → walk.failed ≡ false → walk.at.rest ≡ drop place program → OperationsAreLeft h later walk
+    → walk.numbers ≡ h → walk.failed ≡ false → walk.at.rest ≡ drop place program → OperationsAreLeft h later walk
 left_at h program earlier later place walk is header going rest = grind (arith, common_steps, drop-append_seam)

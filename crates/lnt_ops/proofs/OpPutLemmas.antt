@@ -224,7 +224,8 @@ unknown_standard_put order size view k operands old new is p =
 -- an operation of a header
 pub is_op_of_header : (h : NumberParts) (op : Op) (view : OpView) (size : ℕ) → Admits h op → StandsFor view op → size ≡ h.address_size
     → IsOpOf size view
-is_op_of_header h op view size admits stands sized = record { header = h; op = op; size_is = sym sized; stands = stands; admitted = admits }
+is_op_of_header h op view size admits stands sized =
+    record { numbers = h; op = op; size_is = sym sized; stands = stands; admitted = admits }
 
 pub op_put : (h : NumberParts) (op : Op) (view : OpView) (order : Order) (size : ℕ) (old new : List ℕ) → Admits h op → StandsFor view op
     → order ≡ h.order → size ≡ h.address_size → AddsView order size view old new → Appends (OpBytes h) op old new

@@ -89,15 +89,16 @@ ops_broken h place program ops at fault header so some r = record {
 
 -- ---- walks
 
-pub walk_more : (h : NumberParts) (place : ℕ) (program : List ℕ) (ops : List Op) (op : Op) (view : OpView) (old new : Walk) → old.header ≡ h
+pub walk_more : (h : NumberParts) (place : ℕ) (program : List ℕ) (ops : List Op) (op : Op) (view : OpView) (old new : Walk)
+    → old.numbers ≡ h
     → OpsSoFar h place program ops old.at → GivesOperation view old new → StandsFor view op
-    → (new.header ≡ h) × (new.failed ≡ false) × OpsSoFar h place program (ops ++ op ∷ []) new.at
+    → (new.numbers ≡ h) × (new.failed ≡ false) × OpsSoFar h place program (ops ++ op ∷ []) new.at
 walk_more h place program ops op view old new same so s stands =
     let gives : GivesOp h view old.at new.at = subst (λ (g : NumberParts). GivesOp g view old.at new.at) same s.gives in
     (s.header_is ∙ same, s.goes_on, ops_more h place program ops op view old.at new.at so gives stands)
 
 pub walk_broken : (h : NumberParts) (place : ℕ) (program : List ℕ) (ops : List Op) (fault : Fault) (old new : Walk) → AreHeaderNumbers h
-    → old.header ≡ h → OpsSoFar h place program ops old.at → Fails fault old new → BrokenProgram h place program fault
+    → old.numbers ≡ h → OpsSoFar h place program ops old.at → Fails fault old new → BrokenProgram h place program fault
 walk_broken h place program ops fault old new header same so f =
     let refuses : Refuses (IsFirstFault h) (OpBytes h) old.at fault = subst
     (λ (g : NumberParts). Refuses (IsFirstFault g) (OpBytes g) old.at fault) same f.first in

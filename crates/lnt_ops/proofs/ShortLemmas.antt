@@ -166,7 +166,7 @@ gives_prefix h view size old new f rest place order = grind (arith, common_steps
 
 -- a walk over a program that ends at this offset
 abbrev pub walk_at : NumberParts → ℕ → List ℕ → Walk
-walk_at h end rest = record { header = h; at = record { place = end - length rest; rest = rest; order = h.order }; failed = false }
+walk_at h end rest = record { numbers = h; at = record { place = end - length rest; rest = rest; order = h.order }; failed = false }
 
 pub steps_short : (h : NumberParts) (end : ℕ) (view : OpView) (size : ℕ) (rest past : List ℕ) → length rest ≤ end
     → IsOperationPrefix h view size rest → past ≡ drop size rest → length past + size ≡ length rest

@@ -18,13 +18,13 @@ ends_failed walk e = record { ended = inl e; unchanged = refl }
 pub ends_empty : (walk : Walk) → length walk.at.rest ≡ 0 → Ends walk walk
 ends_empty walk e = record { ended = inr e; unchanged = refl }
 
-pub steps_on : (view : OpView) (old new : Walk) → old.failed ≡ false → new.failed ≡ false → new.header ≡ old.header
-    → GivesOp old.header view old.at new.at → GivesOperation view old new
+pub steps_on : (view : OpView) (old new : Walk) → old.failed ≡ false → new.failed ≡ false → new.numbers ≡ old.numbers
+    → GivesOp old.numbers view old.at new.at → GivesOperation view old new
 steps_on view old new going goes_on header g = grind (arith, common_steps, op_long)
 
-pub fails_here : (fault : Fault) (old new : Walk) → old.failed ≡ false → new.failed ≡ true → new.header ≡ old.header → new.at ≡ old.at
-    → 0 < length old.at.rest → Refuses (IsOpFault old.header.address_size) (OpBytes old.header) old.at fault
-    → Refuses (IsFirstFault old.header) (OpBytes old.header) old.at fault → Fails fault old new
+pub fails_here : (fault : Fault) (old new : Walk) → old.failed ≡ false → new.failed ≡ true → new.numbers ≡ old.numbers → new.at ≡ old.at
+    → 0 < length old.at.rest → Refuses (IsOpFault old.numbers.address_size) (OpBytes old.numbers) old.at fault
+    → Refuses (IsFirstFault old.numbers) (OpBytes old.numbers) old.at fault → Fails fault old new
 fails_here fault old new going failed header at some r t = grind (arith, common_steps)
 
 -- an operation leaves the order of the bytes

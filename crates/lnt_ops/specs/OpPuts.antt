@@ -33,11 +33,11 @@ pub record ExtendedStart (code count : ℕ) (bytes : List ℕ) : Type 0 where
 
 -- The view stands for an operation that some header with addresses of this size admits.
 pub record IsOpOf (size : ℕ) (view : OpView) : Type 0 where
-  pub header : NumberParts
+  pub numbers : NumberParts
   pub op : Op
-  pub size_is : header.address_size ≡ size
+  pub size_is : numbers.address_size ≡ size
   pub stands : StandsFor view op
-  pub admitted : Admits header op
+  pub admitted : Admits numbers op
 
 -- The operation that the view stands for was appended in its shortest encoding, as it is in each unit whose numbers have this
 -- order, whose addresses have this size, and whose header admits it.

@@ -10,9 +10,9 @@ use Rattle.lnt_ops.specs.OpSteps.{GivesOp}
 use Rattle.lnt_header.specs.declared.op.Op.{Op}
 use Rattle.lnt_header.specs.Joins.{Each}
 
--- What a walk is: the header of the unit, its place in the program, and whether an operation failed.
+-- What a walk is: the numbers of the unit's header, its place in the program, and whether an operation failed.
 pub record Walk : Type 0 where
-  pub header : NumberParts
+  pub numbers : NumberParts
   pub at : At
   pub failed : Bool
 
@@ -25,19 +25,19 @@ pub record Ends (old new : Walk) : Type 0 where
 pub record GivesOperation (view : OpView) (old new : Walk) : Type 0 where
   pub going : old.failed ≡ false
   pub goes_on : new.failed ≡ false
-  pub header_is : new.header ≡ old.header
-  pub gives : GivesOp old.header view old.at new.at
+  pub header_is : new.numbers ≡ old.numbers
+  pub gives : GivesOp old.numbers view old.at new.at
   pub shorter : length new.at.rest < length old.at.rest
 
 -- bytes are left, and they don't begin with an operation
 pub record Fails (fault : Fault) (old new : Walk) : Type 0 where
   pub going : old.failed ≡ false
   pub failed : new.failed ≡ true
-  pub header_is : new.header ≡ old.header
+  pub header_is : new.numbers ≡ old.numbers
   pub at_is : new.at ≡ old.at
   pub some : 0 < length old.at.rest
-  pub refuses : Refuses (IsOpFault old.header.address_size) (OpBytes old.header) old.at fault
-  pub first : Refuses (IsFirstFault old.header) (OpBytes old.header) old.at fault
+  pub refuses : Refuses (IsOpFault old.numbers.address_size) (OpBytes old.numbers) old.at fault
+  pub first : Refuses (IsFirstFault old.numbers) (OpBytes old.numbers) old.at fault
 
 -- one step of a walk
 abbrev pub WalkStep : Walk → Option (Result OpView Fault) → Walk → Type 0
@@ -54,7 +54,7 @@ GivesEach (item ∷ items) old new = (next : Walk) × GivesOperation item old ne
 
 -- The walk continues, over bytes that encode these operations.
 pub record OperationsAreLeft (h : NumberParts) (later : List Op) (walk : Walk) : Type 0 where
-  pub header_is : walk.header ≡ h
+  pub header_is : walk.numbers ≡ h
   pub going : walk.failed ≡ false
   pub spelled : Each (OpBytes h) later walk.at.rest
 

@@ -29,7 +29,7 @@ impl<'a> Model for Ops<'a> {
     ghost Value = { Walk };
 
     ghost view = { λ ops. record {
-      header = ops.numbers.now;
+      numbers = ops.numbers.now;
       at = record { place = ops.end - length ops.rest.now; rest = ops.rest.now; order = ops.numbers.now.order };
       failed = ops.failed;
     } };
@@ -47,7 +47,7 @@ impl<'a> Ops<'a> {
     /// section, and the offset after its last byte is below 2^64.
     pub fn new(numbers: &'a HeaderNumbers, program: &'a [u8], place: u64) -> Ops<'a>
         requires { place + length program.now < 2 ^ 64 }
-        ensures header { result.header ≡ numbers.entry.now }
+        ensures header { result.numbers ≡ numbers.entry.now }
         ensures place { result.at.place ≡ place }
         ensures rest { result.at.rest ≡ program.entry.now }
         ensures order { result.at.order ≡ numbers.entry.now.order }
@@ -74,7 +74,7 @@ impl<'a> Ops<'a> {
     ) -> Ops<'a>
         requires room { place + length program.now < 2 ^ 64 }
         requires within { skipped ≤ length program.now }
-        ensures header { result.header ≡ numbers.entry.now }
+        ensures header { result.numbers ≡ numbers.entry.now }
         ensures place { result.at.place ≡ place + skipped }
         ensures rest { result.at.rest ≡ drop skipped program.entry.now }
         ensures order { result.at.order ≡ numbers.entry.now.order }
@@ -115,7 +115,7 @@ impl<'a> Ops<'a> {
     pub fn next_short(&mut self) -> Option<OpView<'a>>
         ensures steps { IfSome result (λ view. GivesOperation view self.old self.new) }
         ensures unchanged { IfNone result (self.new ≡ self.old) }
-        ensures none { IfNone result (self.old.failed ≡ false → NoneShort self.old.header self.old.at.rest) }
+        ensures none { IfNone result (self.old.failed ≡ false → NoneShort self.old.numbers self.old.at.rest) }
     {
         if self.failed {
             return None;

@@ -7,10 +7,10 @@ use Rattle.lnt_text.specs.Digits.{IsAddress, IsDecimal}
 use Rattle.lnt_text.proofs.TextLaws.{one_address_number, one_decimal_number}
 use Rattle.lnt_records.proofs.TableLaws.{FormatLaws}
 use Rattle.lnt_records.specs.Table.{Fields, IsOfColumn}
-use Rattle.lnt_records.specs.declared.by_path.version.PathVersion.TheVariants.{Four, Three}
+use Rattle.lnt_records.specs.declared.path_records.version.PathVersion.TheVariants.{Four, Three}
 use Rattle.lnt_records.specs.PathTables.{IsPathRecord, SaysColumn, SaysPath, by_path, path_column_count, path_column_names, path_kinds}
 use Rattle.lnt_records.specs.PathTables.{PathVersion, record_answer, record_span}
-use Rattle.lnt_records.specs.declared.by_path.record.PathRecord.{PathRecord}
+use Rattle.lnt_records.specs.declared.path_records.record.PathRecord.{PathRecord}
 
 -- ---- a record is of one span
 

@@ -10,7 +10,7 @@ use Rattle.lnt_text.specs.Digits.{IsDecimal, IsPlainAddress, IsPlainDecimal, Beg
 use Rattle.lnt_text.proofs.OneTextLaws.{one_address, one_decimal}
 use Rattle.lnt_records.specs.Table.{BeginsWith, Fields}
 use Rattle.lnt_records.proofs.LineLaws.{HasOneRecord, IsReadBack, LineLaws}
-use Rattle.lnt_records.specs.declared.by_path.version.PathVersion.TheVariants.{Four, Three}
+use Rattle.lnt_records.specs.declared.path_records.version.PathVersion.TheVariants.{Four, Three}
 use Rattle.lnt_records.specs.PathSpans.{PathSpan, PathAnswer, path_answer, told_column}
 use Rattle.lnt_records.specs.PathTables.{IsPathRecord, SaysColumn, by_path, path_column_count, path_column_names, PathVersion}
 use Rattle.lnt_records.specs.PathLines.{IsLineOf, IsPlace, IsPlainByte, IsPlainPathRecord, IsSpanLine, field_with_comma}

@@ -5,7 +5,7 @@ use Rattle.std.proofs.lemmas.List.Elements.{recursion_from_All}
 use Rattle.csv.specs.Writing.{default_writer, field_text}
 use Rattle.lnt_text.specs.Digits.{IsAddress, IsDecimal, Begins}
 use Rattle.lnt_records.proofs.QuotingLaws.{address_text, number_text, quiet_text}
-use Rattle.lnt_records.specs.declared.by_path.version.PathVersion.{PathVersion}
+use Rattle.lnt_records.specs.declared.path_records.version.PathVersion.{PathVersion}
 use Rattle.lnt_records.specs.PathLines.{IsLineOf, IsPathBefore, IsPlace, IsPlainByte}
 use Rattle.lnt_records.proofs.PathLineLaws.{line_taken, quiet_by_recursion}
 

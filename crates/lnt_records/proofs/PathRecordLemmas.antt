@@ -4,7 +4,7 @@ use Rattle.lnt_text.specs.Digits.{IsAddress, IsDecimal}
 use Rattle.lnt_records.proofs.ColumnLemmas.{sound_more}
 use Rattle.lnt_records.specs.Progress.{AreSoundBefore}
 use Rattle.lnt_records.specs.Table.{Fields}
-use Rattle.lnt_records.specs.declared.by_path.version.PathVersion.TheVariants.{Three, Four}
+use Rattle.lnt_records.specs.declared.path_records.version.PathVersion.TheVariants.{Three, Four}
 use Rattle.lnt_records.specs.PathTables.{SaysColumn, SaysPath, path_column_count, path_column_names, path_kinds, PathVersion}
 
 -- ---- record 0

@@ -3,11 +3,11 @@ use Rattle.std.specs.Prelude.{◌≡◌, ◌≢◌, ◌+◌, ◌*◌, ◌%◌, �
 use Rattle.std.specs.List.{fold}
 use Rattle.std.specs.BTreeMap.{BTreeMap, get}
 use Rattle.std.specs.Ordering.{nat_cmp}
-use Rattle.lnt_records.specs.declared.by_path.kept.FileText.{FileText}
-use Rattle.lnt_records.specs.declared.by_path.kept.FileTexts.{FileTexts}
-use Rattle.lnt_records.specs.declared.by_path.alike.ComparedFiles.{ComparedFiles}
-use Rattle.lnt_records.specs.declared.by_path.summed.SummedFile.{SummedFile}
-use Rattle.lnt_records.specs.declared.by_path.told.ToldFile.{ToldFile}
+use Rattle.lnt_records.specs.declared.path_records.kept.FileText.{FileText}
+use Rattle.lnt_records.specs.declared.path_records.kept.FileTexts.{FileTexts}
+use Rattle.lnt_records.specs.declared.path_records.alike.ComparedFiles.{ComparedFiles}
+use Rattle.lnt_records.specs.declared.path_records.summed.SummedFile.{SummedFile}
+use Rattle.lnt_records.specs.declared.path_records.told.ToldFile.{ToldFile}
 
 -- For each file in a slot, it is remembered correctly whether its path is this one.
 abbrev pub AreTold : (ℕ → ℕ → List ℕ) → List ℕ → List (Option ToldFile) → Type 0

@@ -8,10 +8,10 @@ use Rattle.lnt_records.specs.PathSpans.{PathSpan, PathAnswer}
 use Rattle.lnt_records.specs.PathTables.{SaysPath, SaysPathSpan, path_column_names, PathVersion, record_answer}
 use Rattle.lnt_spans.specs.declared.answer.Answer.{Answer}
 use Rattle.lnt_spans.specs.declared.span.Span.{Span}
-use Rattle.lnt_records.specs.declared.by_path.fields.PathFields.{PathFields}
-use Rattle.lnt_records.specs.declared.by_path.version.PathVersion.TheVariants.{Four, Three}
+use Rattle.lnt_records.specs.declared.path_records.fields.PathFields.{PathFields}
+use Rattle.lnt_records.specs.declared.path_records.version.PathVersion.TheVariants.{Four, Three}
 use Rattle.lnt_records.specs.KeptPaths.{ArePairsOf, AreSummed, AreTextsOf}
-use Rattle.lnt_records.specs.declared.by_path.record.PathRecord.{PathRecord}
+use Rattle.lnt_records.specs.declared.path_records.record.PathRecord.{PathRecord}
 
 -- A record of the span without leading zeros and with letters in lower case.
 abbrev pub IsPlainPathRecord : PathVersion → Fields → PathSpan → Type 0

@@ -4,8 +4,8 @@ use Rattle.lnt_spans.specs.declared.answer.Answer.{Answer}
 use Rattle.lnt_spans.specs.declared.position.Position.{Position}
 use Rattle.lnt_spans.specs.declared.span.Span.{Span}
 use Rattle.lnt_spans.specs.Merged.{answer_told}
-use Rattle.lnt_records.specs.declared.by_path.version.PathVersion.{PathVersion}
-use Rattle.lnt_records.specs.declared.by_path.version.PathVersion.TheVariants.{Four, Three}
+use Rattle.lnt_records.specs.declared.path_records.version.PathVersion.{PathVersion}
+use Rattle.lnt_records.specs.declared.path_records.version.PathVersion.TheVariants.{Four, Three}
 use Rattle.lnt_spans.specs.SpanKinds.{AreCanonical, AreSpansInOrder, SpanKind, answer_held, last_end}
 
 -- ---- the answer at a position by path: the bytes of the full path of the file, the line, and in version 3 the column

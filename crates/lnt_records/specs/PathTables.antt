@@ -3,11 +3,11 @@ use Rattle.std.specs.Prelude.{◌≡◌, ℕ, List, [], ◌∷◌, Option, Some,
 use Rattle.lnt_text.specs.Digits.{IsAddress, IsDecimal}
 use Rattle.lnt_records.specs.Table.Kind.{address, decimal, text}
 use Rattle.lnt_records.specs.Table.{Fields, IsTableIn, IsTableOfIn, Kind, TableFormat}
-pub use Rattle.lnt_records.specs.declared.by_path.version.PathVersion.{PathVersion}
-use Rattle.lnt_records.specs.declared.by_path.version.PathVersion.TheVariants.{Three, Four}
+pub use Rattle.lnt_records.specs.declared.path_records.version.PathVersion.{PathVersion}
+use Rattle.lnt_records.specs.declared.path_records.version.PathVersion.TheVariants.{Three, Four}
 use Rattle.lnt_records.specs.PathSpans.{PathAnswer, PathSpan, StandInOrder, whole}
-use Rattle.lnt_records.specs.declared.by_path.record.PathRecord.{PathRecord}
-use Rattle.lnt_records.specs.declared.by_path.record.SaidPath.{SaidPath}
+use Rattle.lnt_records.specs.declared.path_records.record.PathRecord.{PathRecord}
+use Rattle.lnt_records.specs.declared.path_records.record.SaidPath.{SaidPath}
 
 -- the header, record 0
 abbrev pub path_column_names : PathVersion → Fields

@@ -9,26 +9,26 @@
 //! columns are counted from 0 too.
 #![tactic(auto)]
 
-mod by_path;
 mod column;
 mod fault;
 mod header;
 pub mod laws;
 mod lines;
+mod path_records;
 mod record;
 mod taking;
 mod text;
 mod wide;
 mod write;
 
-pub use by_path::{
-    FileText, FileTexts, PathFields, PathRecord, PathVersion, Paths, SaidPath, ToldFile, ToldFiles,
-    addresses_before, first_record, place_before, put_line, record_of,
-};
 pub use column::{Columns, address_at, decimal_at};
 pub use fault::{TableFault, WriteStop};
 pub use header::{TableVersion, header_of};
 pub use lines::first_span;
+pub use path_records::{
+    FileText, FileTexts, PathFields, PathRecord, PathVersion, Paths, SaidPath, ToldFile, ToldFiles,
+    addresses_before, first_record, place_before, put_line, record_of,
+};
 pub use record::{RecordFault, span_of};
 pub use taking::{TakeFault, TakesRecords, next_number, take_records};
 pub use text::{LineRoom, ROOM, address_field_before, number_before};

@@ -11,10 +11,10 @@ use Rattle.std.proofs.lemmas.Grind.{common_steps}
 abbrev pub AnswerSame : {X : Type 0} → (Position → Option X) → (Position → Option X) → Type 0
 AnswerSame one other = (p : Position) → one p ≡ other p
 
-right_so : {X : Type 0} (by_table one other : Position → Option X) (p : Position) → AnswerSame one other → IsRightAt by_table one p
+right_of_same : {X : Type 0} (by_table one other : Position → Option X) (p : Position) → AnswerSame one other → IsRightAt by_table one p
     → IsRightAt by_table other p
-right_so by_table one other p same h = grind (arith, common_steps)
+right_of_same by_table one other p same h = grind (arith, common_steps)
 
-pub found_so : {D X : Type 0} (value_of : D → Stretch X) (by_table one other : Position → Option X) (found : Found D)
+pub found_of_same : {D X : Type 0} (value_of : D → Stretch X) (by_table one other : Position → Option X) (found : Found D)
     → AnswerSame one other → AreFound value_of one by_table found → AreFound value_of other by_table found
-found_so {D} {X} value_of by_table one other found same h = grind (arith, common_steps, same_addresses, right_so)
+found_of_same {D} {X} value_of by_table one other found same h = grind (arith, common_steps, same_addresses, right_of_same)

@@ -139,11 +139,11 @@ mistaken_other to_come tell list by_table ahead low high at said span mistake is
     grind (arith, common_steps, left_first, mistaken_at, answer_in number_spans, at_most_below, first_holds number_spans, same_Some)
 
 -- up to `end` the table says what the next span answers
-says_so : {X : Type 0} (tell : Answer → X) (list : List Span) (by_table : Position → Option X) (low at end high : Position) (said : X)
+right_up_to : {X : Type 0} (tell : Answer → X) (list : List Span) (by_table : Position → Option X) (low at end high : Position) (said : X)
     (AreLeft : List Span → Type 0) (span : Span) (more : List Span) (passed : ArePassed tell list by_table at AreLeft)
     → passed.rest ≡ span ∷ more → tell span.answer ≡ said → IsAtMost span.low at → IsAtMost end span.high → IsAtMost low at
     → IsAtMost end high → Says by_table low high said → IsRightUpTo tell list by_table at end
-says_so tell list by_table low at end high said AreLeft span more passed e same from within le ge says p h k =
+right_up_to tell list by_table low at end high said AreLeft span more passed e same from within le ge says p h k =
     grind (arith, common_steps, at_most_trans, below_at_most, answer_in number_spans)
 
 -- the next span answers alike, and ends beyond the record
@@ -157,7 +157,7 @@ passed_within to_come tell list by_table ahead low high at said span is begun sa
     passed_part tell list by_table at high (IsAhead to_come ahead)
     (IsAhead to_come (record { next = Some (record span { low = high }); spans = ahead.spans }))
     span one.0 passed one.1 (below_is_at_most lt) (at_most_trans begun (below_is_at_most lt)) over
-    (says_so tell list by_table low at high high said (IsAhead to_come ahead) span one.0 passed one.1 same begun (below_is_at_most over)
+    (right_up_to tell list by_table low at high high said (IsAhead to_come ahead) span one.0 passed one.1 same begun (below_is_at_most over)
     le (at_most_itself high) says)
     (refl, one.2)
 
@@ -174,7 +174,7 @@ passed_whole to_come tell list by_table old new low high at said span is begun s
     let begins : IsAtMost at span.low = subst (BeginFrom at) one.1 passed.from in
     passed_span tell list by_table at (IsAhead to_come old) (IsAhead to_come new) span one.0 passed one.1
     (at_most_trans begins (below_is_at_most (first_holds number_spans span one.0 order)))
-    (says_so tell list by_table low at span.high high said (IsAhead to_come old) span one.0 passed one.1 same begun
+    (right_up_to tell list by_table low at span.high high said (IsAhead to_come old) span one.0 passed one.1 same begun
     (at_most_itself span.high) le over says)
     (passes span one.0 (subst (IsAhead to_come old) one.1 passed.left))
 

@@ -4,7 +4,7 @@ use Rattle.std.proofs.Common.{append-nil, append_assoc}
 use Rattle.std.specs.List.{AllByRecursion}
 use Rattle.std.proofs.lemmas.List.{map-append}
 use Rattle.lnt_spans.specs.declared.ahead.Ahead.{Ahead}
-use Rattle.lnt_spans.specs.declared.stretches.Differences.{Differences}
+use Rattle.lnt_spans.specs.declared.differences.Differences.{Differences}
 use Rattle.lnt_spans.specs.Answers.{in_version}
 use Rattle.lnt_spans.specs.AnyStretches.{AreAllStretches, EndsAt, LastsTo, Stay, Stretch, stretch_at, Position, AreToldBelow}
 use Rattle.lnt_spans.specs.Positions.{IsBelow}
@@ -34,9 +34,9 @@ record IsOpenTo {X : Type 0} (f g : Position → Option X) (at : Position) (s t 
 abbrev AreEnding : {X : Type 0} → (Position → Option X) → (Position → Option X) → Position → Option X → Option X → List (Stretch X) → Type 0
 AreEnding f g at s t = AllByRecursion (λ stretch. HasEnd f g stretch ⊎ IsOpenTo f g at s t stretch)
 
-each_so : {X : Type 0} (P Q : X → Type 0) → ((x : X) → P x → Q x) → (list : List X) → AllByRecursion P list → AllByRecursion Q list
-each_so P Q so [] h = tt
-each_so P Q so (x ∷ list) h = (so x h.0, each_so P Q so list h.1)
+each_implied : {X : Type 0} (P Q : X → Type 0) → ((x : X) → P x → Q x) → (list : List X) → AllByRecursion P list → AllByRecursion Q list
+each_implied P Q so [] h = tt
+each_implied P Q so (x ∷ list) h = (so x h.0, each_implied P Q so list h.1)
 
 -- where one of the answers is another one, those that were open end
 closed : {X : Type 0} (f g : Position → Option X) (at : Position) (s t : Option X) (stretch : Stretch X) → IsOpenTo f g at s t stretch
@@ -49,7 +49,7 @@ closed f g at s t stretch is_open other = (
 all_closed : {X : Type 0} (f g : Position → Option X) (at : Position) (s t : Option X) (list : List (Stretch X)) → AreEnding f g at s t list
     → (t ≢ s → f at ≡ s → g at ≡ t → ⊥) → AllByRecursion (HasEnd f g) list
 all_closed f g at s t list h other =
-    each_so (λ stretch. HasEnd f g stretch ⊎ IsOpenTo f g at s t stretch) (HasEnd f g)
+    each_implied (λ stretch. HasEnd f g stretch ⊎ IsOpenTo f g at s t stretch) (HasEnd f g)
     (λ stretch so. elim so [
       | inl end ↦ end
       | inr is_open ↦ closed f g at s t stretch is_open (other is_open.differ)
@@ -57,13 +57,14 @@ all_closed f g at s t list h other =
 
 ending : {X : Type 0} (f g : Position → Option X) (at : Position) (s t : Option X) (list : List (Stretch X))
     → AllByRecursion (HasEnd f g) list → AreEnding f g at s t list
-ending f g at s t = each_so (HasEnd f g) (λ stretch. HasEnd f g stretch ⊎ IsOpenTo f g at s t stretch) (λ stretch end. inl end)
+ending f g at s t = each_implied (HasEnd f g) (λ stretch. HasEnd f g stretch ⊎ IsOpenTo f g at s t stretch) (λ stretch end. inl end)
 
 -- both answers stay
 kept_open : {X : Type 0} (f g : Position → Option X) (at end : Position) (s t : Option X) (list : List (Stretch X))
     → AreEnding f g at s t list → IsBelow at end → Stay f g s t at end → AreEnding f g end s t list
 kept_open f g at end s t list h lt stay =
-    each_so (λ stretch. HasEnd f g stretch ⊎ IsOpenTo f g at s t stretch) (λ stretch. HasEnd f g stretch ⊎ IsOpenTo f g end s t stretch)
+    each_implied (λ stretch. HasEnd f g stretch ⊎ IsOpenTo f g at s t stretch)
+    (λ stretch. HasEnd f g stretch ⊎ IsOpenTo f g end s t stretch)
     (λ stretch so. elim so [
       | inl ends ↦ inl ends
       | inr is_open ↦ inr (record {

@@ -7,7 +7,7 @@ use Rattle.lnt_spans.specs.AnyStretches.{Stretch, Position, AreToldBelow, LastsT
 use Rattle.lnt_spans.specs.Partial.{addresses_answered, where_missed}
 use Rattle.lnt_spans.specs.Merged.{until}
 use Rattle.lnt_spans.specs.Runs.{IsAheadAt, IsSideAt, runs_left, Answer, Span}
-use Rattle.lnt_spans.specs.declared.stretches.Differences.{Differences}
+use Rattle.lnt_spans.specs.declared.differences.Differences.{Differences}
 use Rattle.lnt_spans.specs.Answers.{in_version}
 use Rattle.lnt_spans.specs.Differences.{stretch_of, stretches_of, Difference}
 

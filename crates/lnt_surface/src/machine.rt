@@ -56,7 +56,7 @@ pub fn machine_by_numbers(numbers: &HeaderNumbers) -> Machine<'_> {
 
 /// The row that an operation makes, if it makes one. The caller ensures that the machine's header admits the operation.
 pub fn stepped(machine: &mut Machine<'_>, view: &OpView<'_>) -> Result<Option<Row>, RunFault>
-    requires { (op : Op) × StandsFor view.now op × Admits machine.old.header op }
+    requires { (op : Op) × StandsFor view.now op × Admits machine.old.numbers op }
 {
     machine.step(view)
 }

@@ -7,7 +7,7 @@ use Rattle.lnt_compare.specs.Canonical.{BeginsPathTable, IsCanonicalPathTable}
 use Rattle.lnt_io.specs.declared.status.Status.{Status}
 use Rattle.lnt_io.specs.declared.status.Status.TheVariants.{Done, No}
 use Rattle.lnt_io.specs.Prefixes.{AppendsPrefix}
-use Rattle.lnt_records.specs.declared.by_path.version.PathVersion.TheVariants.{Four}
+use Rattle.lnt_records.specs.declared.path_records.version.PathVersion.TheVariants.{Four}
 use Rattle.lnt_records.specs.PathSpans.{spans_by_path}
 use Rattle.lnt_spans.specs.Spans.{AreInOrder, IsOfInstructions}
 use Rattle.lnt_spans.specs.declared.span.Span.{Span}
@@ -22,7 +22,7 @@ use Rattle.lnt_gsym.specs.declared.spans.Functions.{Functions}
 use Rattle.lnt_symbols.specs.Pieces.{HasTable}
 use Rattle.lnt_symbols.specs.SymbolTables.{answers_in_table, BeginsPrinted, gsym_answers, HasPrinted, symbol_fault_line}
 use Rattle.lnt_symbols.specs.declared.fault.SymbolFault.TheVariants.{Gsym as GsymOf}
-use Rattle.lnt_symbols.proofs.PieceLemmas.{begun_so, whole_so}
+use Rattle.lnt_symbols.proofs.PieceLemmas.{begun_of_same, whole_of_same}
 
 -- ---- the table of spans that answer so
 
@@ -34,15 +34,19 @@ pub spans_table : (to_come : List Span → Type 0) (names : NamesSaid) (gsym : G
     → (bytes : List ℕ) × Appends old new bytes × IsCanonicalPathTable Four (spans_by_path Four (path_of names) list) bytes)
     → HasTable (answers_in_table (gsym_answer gsym)) old new
 spans_table to_come names gsym old new so table =
-    let made = table so.list so.coming so.in_order so.instructions in
-    (made.0, made.1, whole_so (spans_by_path Four (path_of names) so.list) (answers_in_table (gsym_answer gsym)) made.0 so.answers made.2)
+    let made = table so.list so.coming so.in_order so.instructions in (
+      made.0,
+      made.1,
+      whole_of_same (spans_by_path Four (path_of names) so.list)
+          (answers_in_table (gsym_answer gsym)) made.0 so.answers made.2,
+    )
 
 pub spans_begun : (to_come : List Span → Type 0) (names : NamesSaid) (gsym : Gsym) (old new : Option (List ℕ)) → SpansSo to_come names gsym
     → ((list : List Span) → to_come list → AreInOrder list → AllByRecursion IsOfInstructions list
     → BeginsPathTable Four (spans_by_path Four (path_of names) list) old new)
     → BeginsPathTable Four (answers_in_table (gsym_answer gsym)) old new
 spans_begun to_come names gsym old new so begun =
-    begun_so (spans_by_path Four (path_of names) so.list) (answers_in_table (gsym_answer gsym)) old new so.answers
+    begun_of_same (spans_by_path Four (path_of names) so.list) (answers_in_table (gsym_answer gsym)) old new so.answers
     (begun so.list so.coming so.in_order so.instructions)
 
 -- ---- what is printed

@@ -12,7 +12,7 @@ use Rattle.std.proofs.lemmas.List.Folds.{find-append}
 use Rattle.std.proofs.lemmas.List.Sorted.{All-permutation, Contains-permutation}
 use Rattle.std.specs.Io.KnownBytes.{Appends}
 use Rattle.lnt_compare.specs.Canonical.{BeginsPathTable, IsCanonicalPathTable}
-use Rattle.lnt_records.specs.declared.by_path.version.PathVersion.TheVariants.{Four}
+use Rattle.lnt_records.specs.declared.path_records.version.PathVersion.TheVariants.{Four}
 use Rattle.lnt_records.specs.PathSpans.{PathAnswer, spans_by_path}
 use Rattle.lnt_spans.proofs.EachTwoLaws.{each_two_from_pairs, each_two_permutation, EachTwo, find_none, find_only, found, none_found}
 use Rattle.lnt_spans.proofs.EachTwoLaws.{pairs_from_each_two, pairs_head, pairs_tail}
@@ -259,9 +259,9 @@ answers_of names base records pieces same are =
 
 -- ---- the table
 
-pub whole_so : (f g : Position → Option PathAnswer) (bytes : List ℕ) → ((p : Position) → f p ≡ g p) → IsCanonicalPathTable Four f bytes
+pub whole_of_same : (f g : Position → Option PathAnswer) (bytes : List ℕ) → ((p : Position) → f p ≡ g p) → IsCanonicalPathTable Four f bytes
     → IsCanonicalPathTable Four g bytes
-whole_so f g bytes e h = record {
+whole_of_same f g bytes e h = record {
   spans = h.spans;
   canonical = record { canonical = h.canonical.canonical; same = λ p. h.canonical.same p ∙ e p };
   table = h.table;
@@ -286,17 +286,21 @@ pub table_told : (path : ℕ → ℕ → List ℕ) (ps qs : List Piece) (answers
     → AnswerSo (path 0) ps answers → IsPermutation ps qs
     → (bytes : List ℕ) × Appends old new bytes × IsCanonicalPathTable Four (spans_by_path Four path (map piece_span qs)) bytes
     → HasTable answers old new
-table_told path ps qs answers old new h perm made =
-    (made.0, made.1, whole_so (spans_by_path Four path (map piece_span qs)) answers made.0 (so_answered path ps qs answers h perm) made.2)
+table_told path ps qs answers old new h perm made = (
+  made.0,
+  made.1,
+  whole_of_same (spans_by_path Four path (map piece_span qs)) answers made.0
+      (so_answered path ps qs answers h perm) made.2,
+)
 
 -- a prefix of the table of the same answers
-pub begun_so : (f g : Position → Option PathAnswer) (old new : Option (List ℕ)) → ((p : Position) → f p ≡ g p)
+pub begun_of_same : (f g : Position → Option PathAnswer) (old new : Option (List ℕ)) → ((p : Position) → f p ≡ g p)
     → BeginsPathTable Four f old new → BeginsPathTable Four g old new
-begun_so f g old new same begun = record {
+begun_of_same f g old new same begun = record {
   spans = begun.spans;
   canonical = record { canonical = begun.canonical.canonical; same = λ p. begun.canonical.same p ∙ same p };
   begun = begun.begun;
-  of_whole = λ bytes whole. begun.of_whole bytes (whole_so g f bytes (λ p. sym (same p)) whole);
+  of_whole = λ bytes whole. begun.of_whole bytes (whole_of_same g f bytes (λ p. sym (same p)) whole);
   decided = begun.decided;
 }
 
@@ -304,7 +308,7 @@ pub table_begun : (path : ℕ → ℕ → List ℕ) (ps qs : List Piece) (answer
     → AnswerSo (path 0) ps answers → IsPermutation ps qs
     → BeginsPathTable Four (spans_by_path Four path (map piece_span qs)) old new → BeginsPathTable Four answers old new
 table_begun path ps qs answers old new h perm begun =
-    begun_so (spans_by_path Four path (map piece_span qs)) answers old new (so_answered path ps qs answers h perm) begun
+    begun_of_same (spans_by_path Four path (map piece_span qs)) answers old new (so_answered path ps qs answers h perm) begun
 
 -- ---- one table
 
@@ -319,4 +323,4 @@ in_table_same f g same p = by_test (nat_lt p.address (2 ^ 64 - 1)) refl
 pub one_table : OneTable
 one_table f g x y same one other =
     one_path_table Four (answers_in_table g) x y
-    (whole_so (answers_in_table f) (answers_in_table g) x (in_table_same f g same) one) other
+    (whole_of_same (answers_in_table f) (answers_in_table g) x (in_table_same f g same) one) other

@@ -283,11 +283,12 @@ pub answers_of_records : (base : ℕ) (bytes : List ℕ) (records : List RecordS
     → Ok (loaded_at base (answer_at records)) ≡ breakpad_answers base bytes
 answers_of_records base bytes records is = ap (answers_from base) (sym is) ∙ answers_are base (records_of bytes)
 
-pub printed_so : {E : Type 0} (base : ℕ) (bytes : List ℕ) (records : List RecordSaid) (old new : Option (List ℕ)) (result : Result Status E)
+pub answers_are_printed : {E : Type 0} (base : ℕ) (bytes : List ℕ) (records : List RecordSaid) (old new : Option (List ℕ))
+    (result : Result Status E)
     → records_of bytes ≡ Ok records → IfOk result (λ status. status ≡ Done)
     → IfOk result (λ _. HasTable (answers_in_table (loaded_at base (answer_at records))) old new)
     → IfOk result (λ status. HasPrinted (breakpad_answers base bytes) old new status)
-printed_so base bytes records old new (Err stop) is done table = tt
-printed_so base bytes records old new (Ok status) is done table =
+answers_are_printed base bytes records old new (Err stop) is done table = tt
+answers_are_printed base bytes records old new (Ok status) is done table =
     subst (λ s. HasPrinted (breakpad_answers base bytes) old new s) (sym done)
     (subst (λ answers. HasPrinted answers old new Done) (answers_of_records base bytes records is) table)

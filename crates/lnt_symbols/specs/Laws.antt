@@ -1,7 +1,7 @@
 -- What the laws of symbol files say.
 use Rattle.std.specs.Prelude.{◌≡◌, ℕ, ◌-◌, ◌^◌, ◌<◌, List}
 use Rattle.lnt_compare.specs.Canonical.{IsCanonicalPathTable}
-use Rattle.lnt_records.specs.declared.by_path.version.PathVersion.TheVariants.{Four}
+use Rattle.lnt_records.specs.declared.path_records.version.PathVersion.TheVariants.{Four}
 use Rattle.lnt_symbols.specs.SymbolTables.{Answers, answers_in_table}
 
 -- Two files that answer alike at each address that a table can have are told by the same bytes.

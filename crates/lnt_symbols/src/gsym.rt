@@ -7,7 +7,7 @@ ghost use Rattle.lnt_gsym.specs.GsymFiles as file;
 ghost use Rattle.lnt_gsym.specs.Spanning.{HasRead};
 ghost use Rattle.lnt_io.specs.IoStops.{IsPrinting};
 ghost use Rattle.lnt_io.specs.declared.status.Status.TheVariants.{Done};
-ghost use Rattle.lnt_records.specs.declared.by_path.version.PathVersion.TheVariants.{Four};
+ghost use Rattle.lnt_records.specs.declared.path_records.version.PathVersion.TheVariants.{Four};
 ghost use Rattle.lnt_symbols.specs.Pieces.{HasTable};
 ghost use Rattle.lnt_symbols.specs.SymbolTables.{BeginsPrinted, HasPrinted, answers_in_table, gsym_answers};
 

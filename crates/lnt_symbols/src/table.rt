@@ -3,7 +3,7 @@ ghost use Rattle.std.specs.Prelude.{◌⊎◌, Option, OnErr, OnOk};
 ghost use Rattle.std.specs.Io.KnownBytes.{Keeps};
 ghost use Rattle.lnt_spans.specs.declared.position.Position as position;
 ghost use Rattle.lnt_records.specs.PathSpans.{PathAnswer};
-ghost use Rattle.lnt_records.specs.declared.by_path.version.PathVersion.TheVariants.{Four};
+ghost use Rattle.lnt_records.specs.declared.path_records.version.PathVersion.TheVariants.{Four};
 ghost use Rattle.lnt_compare.specs.Canonical.{BeginsPathTable};
 ghost use Rattle.lnt_symbols.specs.Pieces.{AnswerSo, HasTable, all_pieces};
 

@@ -8,7 +8,7 @@ use Rattle.lnt_sequences.specs.Copies.{IsAnyAnswer}
 use Rattle.lnt_sequences.specs.Rules.{AreApart}
 use Rattle.lnt_sequences.specs.Sequences.{line_answer, live_sequences, Selection}
 use Rattle.lnt_sequences.proofs.AnyLemmas.{any_answers, any_as_kept}
-use Rattle.lnt_records.specs.declared.by_path.version.PathVersion.{PathVersion}
+use Rattle.lnt_records.specs.declared.path_records.version.PathVersion.{PathVersion}
 use Rattle.lnt_records.specs.PathSpans.{path_answer, PathAnswer}
 use Rattle.lnt_spans.specs.Answers.{in_version}
 use Rattle.lnt_lines.specs.declared.options.Options.{Options}

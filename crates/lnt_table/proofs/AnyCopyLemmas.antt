@@ -10,7 +10,7 @@ use Rattle.lnt_spans.specs.Differences.{stretch_of}
 use Rattle.lnt_spans.specs.Spans.{span_answer}
 use Rattle.lnt_sequences.specs.Copies.{IsAnyAnswer}
 use Rattle.lnt_sequences.specs.Sequences.{line_answer, Selection}
-use Rattle.lnt_records.specs.declared.by_path.version.PathVersion.{PathVersion}
+use Rattle.lnt_records.specs.declared.path_records.version.PathVersion.{PathVersion}
 use Rattle.lnt_records.specs.declared.fault.TableFault.{TableFault}
 use Rattle.lnt_records.specs.Faults.{IsFault}
 use Rattle.lnt_records.specs.PathSpans.{path_answer, path_span_answer, PathSpan}
@@ -18,7 +18,7 @@ use Rattle.lnt_records.specs.PathTables.{by_path}
 use Rattle.lnt_records.specs.Table.{BeginsWith, by_number, column_names, IsTableOfIn}
 use Rattle.lnt_records.proofs.BeginningLaws.{one_beginning, table_begins}
 use Rattle.lnt_records.proofs.NumberLaws.{numbered}
-use Rattle.lnt_compare.specs.declared.by_path.answer.DifferenceByPath.{DifferenceByPath}
+use Rattle.lnt_compare.specs.declared.path_tables.answer.DifferenceByPath.{DifferenceByPath}
 use Rattle.lnt_compare.specs.Comparisons.{in_versions, IsTableWhere}
 use Rattle.lnt_compare.specs.PathStretches.{stretch_of as path_stretch_of}
 use Rattle.lnt_records.specs.declared.fault.TableFault.TheVariants as fault

@@ -14,8 +14,8 @@ use Rattle.lnt_records.specs.Faults.{IsUnnumbered}
 use Rattle.lnt_records.proofs.BeginningLaws.{faulty_begins, one_beginning, table_begins}
 use Rattle.lnt_records.specs.Table as numbered
 use Rattle.lnt_records.specs.Table.{column_names}
-use Rattle.lnt_records.specs.declared.by_path.version.PathVersion.{PathVersion}
-use Rattle.lnt_records.specs.declared.by_path.version.PathVersion.TheVariants.{Three, Four}
+use Rattle.lnt_records.specs.declared.path_records.version.PathVersion.{PathVersion}
+use Rattle.lnt_records.specs.declared.path_records.version.PathVersion.TheVariants.{Three, Four}
 use Rattle.lnt_records.specs.PathTables as pathed
 use Rattle.lnt_records.specs.PathTables.{path_column_names}
 use Rattle.lnt_compare.specs.Canonical.{IsCanonicalPathTable}

@@ -20,9 +20,9 @@ use Rattle.lnt_table.specs.Headline.{IsTrueByNumber, IsTrueOfSection, IsTrueVerd
 use Rattle.lnt_table.specs.Verdicts.{verdict_of}
 
 -- Spans that answer as the rows do also answer so as each version tells answers.
-pub told_so : (version : Version) (selection : Selection) (spans : List Span) → ((p : Position)
+pub same_in_version : (version : Version) (selection : Selection) (spans : List Span) → ((p : Position)
     → span_answer spans p ≡ line_answer selection p) → (p : Position) → version_answer version spans p ≡ told_answer version selection p
-told_so version selection spans same p = ap (option_map (in_version version)) (same p)
+same_in_version version selection spans same p = ap (option_map (in_version version)) (same p)
 
 -- ---- what a comparison says
 

@@ -10,7 +10,7 @@ use Rattle.lnt_spans.proofs.PartialLemmas.{empty_table, whole_table}
 use Rattle.lnt_records.specs.PathTables.{by_path}
 use Rattle.lnt_records.specs.Table.{IsTableOfIn, by_number, column_names}
 use Rattle.lnt_records.specs.PathTables.{path_column_names}
-use Rattle.lnt_records.specs.declared.by_path.version.PathVersion.{PathVersion}
+use Rattle.lnt_records.specs.declared.path_records.version.PathVersion.{PathVersion}
 use Rattle.lnt_records.proofs.BeginningLaws.{one_beginning, table_begins}
 use Rattle.lnt_compare.specs.Comparisons.{IsTableWhere, TableKind, tables_by_number}
 use Rattle.lnt_compare.specs.Outcomes.{tables_by_path}

@@ -15,7 +15,7 @@ use Rattle.lnt_records.specs.Faults.{IsUnnumbered}
 use Rattle.lnt_records.specs.PathSpans.{PathSpan, path_spans}
 use Rattle.lnt_records.specs.PathTables.{IsPathRecord, by_path}
 use Rattle.lnt_records.specs.Table.{Fields, IsTableIn, IsTableOfIn, RecordsOf, by_number}
-use Rattle.lnt_records.specs.declared.by_path.version.PathVersion.{PathVersion}
+use Rattle.lnt_records.specs.declared.path_records.version.PathVersion.{PathVersion}
 use Rattle.lnt_records.proofs.BeginningLaws.{table_begins}
 use Rattle.lnt_compare.specs.declared.outcome.Compared.TheVariants.{Same}
 use Rattle.lnt_compare.specs.PathStretches.{IsPathSpanOfInstructions}

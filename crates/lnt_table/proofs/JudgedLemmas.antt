@@ -24,10 +24,10 @@ use Rattle.lnt_records.proofs.LineLaws as lines
 use Rattle.lnt_records.proofs.WriteLaws.{plain_numbers}
 use Rattle.lnt_spans.specs.declared.answer.Version.{Version}
 use Rattle.lnt_records.proofs.BeginningLaws.{one_beginning}
-use Rattle.lnt_compare.proofs.ComparedLaws.{compared_whole, outcome_so}
+use Rattle.lnt_compare.proofs.ComparedLaws.{compared_whole, outcome_of_alike}
 use Rattle.lnt_compare.proofs.StreamLaws.{line_taken, not_header}
-use Rattle.lnt_compare.specs.declared.by_path.answer.DifferenceByPath.{DifferenceByPath}
-use Rattle.lnt_records.specs.declared.by_path.version.PathVersion.{PathVersion}
+use Rattle.lnt_compare.specs.declared.path_tables.answer.DifferenceByPath.{DifferenceByPath}
+use Rattle.lnt_records.specs.declared.path_records.version.PathVersion.{PathVersion}
 use Rattle.lnt_records.specs.PathSpans.{spans_by_path}
 use Rattle.lnt_records.specs.PathTables.{path_column_names}
 use Rattle.lnt_records.proofs.PathLineLaws.{header_begins}
@@ -51,7 +51,7 @@ use Rattle.lnt_table.specs.AnyVersion.{IsTrueCheck, IsTrueCheckOfSection, told_p
 use Rattle.lnt_table.specs.AnyVersion.{IsTrueOfSectionWithin, IsTrueWithin}
 use Rattle.lnt_table.specs.Headline.{indexed_path, told_path, told_rows}
 use Rattle.lnt_table.proofs.AnyLawLemmas.{names_differ}
-use Rattle.lnt_table.proofs.CheckLemmas.{compared_told, none_of_section, section_told, told_so}
+use Rattle.lnt_table.proofs.CheckLemmas.{compared_told, none_of_section, section_told, same_in_version}
 use Rattle.lnt_table.proofs.UnitPathLemmas.{told_by_units}
 
 -- ---- the comparison with an index
@@ -61,8 +61,8 @@ pub numbered_with : (bytes : List ℕ) (index : Indexed) (selection : Selection)
     (outcome : Outcome Difference) → ((p : Position) → span_answer spans p ≡ line_answer selection p)
     → IsOutcome bytes spans outcome × (outcome ≢ Fault fault.Header) → IsJudgedWith index selection bytes (judged.Numbered outcome)
 numbered_with bytes index selection spans outcome answers is = (
-  outcome_so tables_by_number bytes (in_versions (span_answer spans)) (in_versions (line_answer selection)) outcome
-      (λ version. told_so version selection spans answers) is.0,
+  outcome_of_alike tables_by_number bytes (in_versions (span_answer spans)) (in_versions (line_answer selection)) outcome
+      (λ version. same_in_version version selection spans answers) is.0,
   is.1,
 )
 
@@ -73,7 +73,7 @@ pub pathed_with : (bytes : List ℕ) (index : Indexed) (selection : Selection) (
     → IsJudgedWith index selection bytes (judged.ByPath outcome)
 pathed_with bytes index selection spans outcome is other answers h = (
   other,
-  outcome_so tables_by_path bytes (λ version. spans_by_path version (indexed_path index) spans)
+  outcome_of_alike tables_by_path bytes (λ version. spans_by_path version (indexed_path index) spans)
       (λ version. told_path version index selection) outcome
       (λ version. told_by_units version index selection spans is answers) h,
 )
@@ -240,17 +240,17 @@ of_good line general options section index (judged.Numbered outcome) i = (
 of_good line general options section index (judged.ByPath outcome) i = ((i.units, i.good), (i.units, i.good))
 
 -- what is so of the answer, and of all that says how much is answered
-covered_so : (IsSo : CheckedWithin → Type 0) (coverage : Option Coverage) (checked : Checked) → IsSo (Told checked)
+holds_of_covered : (IsSo : CheckedWithin → Type 0) (coverage : Option Coverage) (checked : Checked) → IsSo (Told checked)
     → ((coverage : Coverage) → IsSo (Covered coverage)) → IsSo (covered_or coverage checked)
-covered_so IsSo None checked told covered = told
-covered_so IsSo (Some coverage) checked told covered = covered coverage
+holds_of_covered IsSo None checked told covered = told
+holds_of_covered IsSo (Some coverage) checked told covered = covered coverage
 
 within_section : (line general : List ℕ) (options : Options) (section : List ℕ) (index : Indexed) (scope : Scope) (told : Judged)
     → IsIndexOfSection line general options section index
     → IsTrueOfSectionWithin line general options section (within_scope scope told)
 within_section line general options section index All told i = (of_good line general options section index told i).0
 within_section line general options section index Answered told i =
-    covered_so (IsTrueOfSectionWithin line general options section) (coverage_in told) (part_checked told)
+    holds_of_covered (IsTrueOfSectionWithin line general options section) (coverage_in told) (part_checked told)
     (of_good line general options section index told i).1 (λ coverage. (i.units, i.good))
 
 pub section_within : (line general : List ℕ) (options : Options) (section : Option (List ℕ)) (index : Indexed)
@@ -272,11 +272,11 @@ pub not_within : (scope : Scope) (told : Judged) (reason : SectionNo)
     → within_scope scope told ≡ Told (Numbered (No (no.Section reason))) → ⊥
 not_within All told reason = λ e. (not_of_section told reason).0 cc
 not_within Answered told reason =
-    covered_so (λ checked. checked ≡ Told (Numbered (No (no.Section reason))) → ⊥) (coverage_in told) (part_checked told)
+    holds_of_covered (λ checked. checked ≡ Told (Numbered (No (no.Section reason))) → ⊥) (coverage_in told) (part_checked told)
     (λ e. (not_of_section told reason).1 cc) (λ coverage e. cc e)
 
 -- only in the scope of answered positions it is said how much is answered
 pub of_scope : (scope : Scope) (told : Judged) → IsOfScope (within_scope scope told) scope
 of_scope All told = tt
 of_scope Answered told =
-    covered_so (λ checked. IsOfScope checked Answered) (coverage_in told) (part_checked told) tt (λ coverage. tt)
+    holds_of_covered (λ checked. IsOfScope checked Answered) (coverage_in told) (part_checked told) tt (λ coverage. tt)

@@ -3,7 +3,7 @@ use Rattle.std.proofs.Common.{◌∙◌, sym}
 use Rattle.lnt_lines.specs.Good.{selected}
 use Rattle.lnt_table.specs.declared.verdict.Verdict.TheVariants.{Yes}
 use Rattle.lnt_table.specs.Laws.{OneVerdict, OnlyYes, OwnTable, OwnTableOfUnits}
-use Rattle.lnt_table.proofs.CheckLemmas.{told_so}
+use Rattle.lnt_table.proofs.CheckLemmas.{same_in_version}
 
 pub only_yes : OneVerdict → OnlyYes
 only_yes verdicts line general options bytes table verdict h v = verdicts.one line general options bytes table verdict Yes v h
@@ -23,6 +23,6 @@ own_table own line general options bytes table lines version verdict l w v =
       spans = w.spans;
       canonical = w.canonical;
       same =
-          λ p. w.same p ∙ told_so version (selected options l.units) lines.spans l.tells.answers p;
+          λ p. w.same p ∙ same_in_version version (selected options l.units) lines.spans l.tells.answers p;
       written = w.written;
     }) v

@@ -2,7 +2,7 @@
 use Rattle.std.proofs.Common.{◌≡◌, ℕ, List}
 use Rattle.lnt_compare.specs.declared.outcome.Compared.{Compared}
 use Rattle.lnt_compare.specs.Laws.{OneComparison}
-use Rattle.lnt_compare.specs.declared.by_path.answer.DifferenceByPath.{DifferenceByPath}
+use Rattle.lnt_compare.specs.declared.path_tables.answer.DifferenceByPath.{DifferenceByPath}
 use Rattle.lnt_compare.specs.Outcomes.{tables_by_path}
 use Rattle.lnt_lines.specs.declared.options.Options.{Options}
 use Rattle.lnt_table.specs.Verdicts.{Checked, Verdict}

@@ -20,7 +20,7 @@ use Rattle.lnt_records.proofs.BeginningLaws.{faulty_begins, table_begins}
 use Rattle.lnt_records.proofs.NumberLaws.{numbered}
 use Rattle.lnt_records.proofs.PathLaws.{pathed}
 use Rattle.lnt_records.proofs.TableLaws.{FormatLaws, no_fault, one_fault}
-use Rattle.lnt_compare.specs.declared.by_path.answer.DifferenceByPath.{DifferenceByPath}
+use Rattle.lnt_compare.specs.declared.path_tables.answer.DifferenceByPath.{DifferenceByPath}
 use Rattle.lnt_compare.specs.declared.outcome.Compared.{Compared}
 use Rattle.lnt_compare.specs.declared.outcome.Compared.TheVariants.{Same, Fault, Differs}
 use Rattle.lnt_compare.specs.Comparisons.{TableKind, stretch_told, tables_by_number}

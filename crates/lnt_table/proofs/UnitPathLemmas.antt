@@ -14,7 +14,7 @@ use Rattle.lnt_spans.specs.declared.position.Position.{Position}
 use Rattle.lnt_spans.specs.declared.span.Span.{Span}
 use Rattle.lnt_spans.specs.Spans.{span_answer}
 use Rattle.lnt_sequences.specs.Sequences.{line_answer, Selection}
-use Rattle.lnt_records.specs.declared.by_path.version.PathVersion.{PathVersion}
+use Rattle.lnt_records.specs.declared.path_records.version.PathVersion.{PathVersion}
 use Rattle.lnt_records.specs.PathSpans.{path_answer, spans_by_path}
 use Rattle.lnt_lines.specs.Indexed.{header_in, Indexed, IsIndexOf}
 use Rattle.lnt_table.specs.Headline.{header_at, indexed_path, path_at, told_path}

@@ -14,7 +14,7 @@ use Rattle.lnt_spans.specs.Partial.{AreCounts}
 use Rattle.lnt_spans.specs.Positions.{IsAtMost, IsBelow}
 use Rattle.lnt_spans.specs.SpanKinds.{answer_held}
 use Rattle.lnt_sequences.specs.Copies.{IsAnyAnswer}
-use Rattle.lnt_records.specs.declared.by_path.version.PathVersion.{PathVersion}
+use Rattle.lnt_records.specs.declared.path_records.version.PathVersion.{PathVersion}
 use Rattle.lnt_records.specs.Faults.{IsUnnumbered}
 use Rattle.lnt_records.specs.PathSpans.{PathAnswer, path_answer}
 use Rattle.lnt_records.specs.Table.{IsTableOfIn}

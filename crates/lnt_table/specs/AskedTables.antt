@@ -8,7 +8,7 @@ use Rattle.lnt_sequences.specs.Sequences.{line_answer, Selection}
 use Rattle.lnt_records.specs.declared.fault.TableFault.TheVariants as fault
 use Rattle.lnt_records.specs.Faults.{IsFaultIn, IsUnnumbered}
 use Rattle.lnt_records.specs.PathSpans.{path_answer}
-use Rattle.lnt_compare.specs.declared.by_path.answer.DifferenceByPath.{DifferenceByPath}
+use Rattle.lnt_compare.specs.declared.path_tables.answer.DifferenceByPath.{DifferenceByPath}
 use Rattle.lnt_compare.specs.declared.outcome.Compared.{Compared}
 use Rattle.lnt_compare.specs.declared.outcome.Compared.TheVariants as compared
 use Rattle.lnt_compare.specs.declared.outcome.TableRead.{TableRead}

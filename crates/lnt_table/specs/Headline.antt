@@ -25,7 +25,7 @@ use Rattle.lnt_table.specs.declared.verdict.Verdict.TheVariants.{Yes, No}
 use Rattle.lnt_header.specs.Parts.{HeaderParts}
 use Rattle.lnt_files.specs.Paths.{path_bytes, path_or_empty}
 use Rattle.lnt_lines.specs.Indexed.{Indexed, file_path_in}
-use Rattle.lnt_records.specs.declared.by_path.version.PathVersion.{PathVersion}
+use Rattle.lnt_records.specs.declared.path_records.version.PathVersion.{PathVersion}
 use Rattle.lnt_records.specs.PathSpans.{PathAnswer, path_answer}
 
 -- the answer of a section's rows at a position, in the fields of this version of the address table

@@ -9,7 +9,7 @@ use Rattle.lnt_compare.specs.Outcomes.{IsOutcomeOf, Outcome, part_of, whole_of, 
 use Rattle.lnt_compare.specs.declared.outcome.TableRead.TheVariants.{Fault, Table}
 use Rattle.lnt_compare.specs.Comparisons.{in_versions, tables_by_number}
 use Rattle.lnt_records.specs.Faults.{IsUnnumbered}
-use Rattle.lnt_compare.specs.declared.by_path.answer.DifferenceByPath.{DifferenceByPath}
+use Rattle.lnt_compare.specs.declared.path_tables.answer.DifferenceByPath.{DifferenceByPath}
 use Rattle.lnt_lines.specs.Indexed.{Indexed}
 use Rattle.lnt_table.specs.Verdicts.{Checked, verdict_of}
 use Rattle.lnt_table.specs.declared.kinds.OfKind.TheVariants.{Numbered, ByPath}

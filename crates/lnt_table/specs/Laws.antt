@@ -20,7 +20,7 @@ use Rattle.lnt_compare.specs.declared.outcome.Compared.TheVariants.{Same}
 use Rattle.lnt_compare.specs.Comparisons.{stretch_told}
 use Rattle.lnt_records.specs.Table.{IsTableOfIn, by_number}
 use Rattle.lnt_records.specs.PathTables.{by_path}
-use Rattle.lnt_records.specs.declared.by_path.version.PathVersion.{PathVersion}
+use Rattle.lnt_records.specs.declared.path_records.version.PathVersion.{PathVersion}
 use Rattle.lnt_records.specs.PathSpans.{PathAnswer, path_answer}
 use Rattle.lnt_compare.specs.PathStretches.{stretch_of}
 use Rattle.lnt_compare.specs.Canonical.{IsCanonicalPathTable}

@@ -1,4 +1,5 @@
 pub mod AnyCopy
+pub mod AnyDiffering
 pub mod AnyVersion
 pub mod Asked
 pub mod AskedTables
@@ -8,7 +9,6 @@ pub mod Headline
 pub mod Judged
 pub mod Laws
 pub mod Said
-pub mod Stretches
 pub mod Verdicts
 pub mod Written
 pub mod WrongStretches

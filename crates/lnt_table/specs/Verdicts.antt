@@ -4,7 +4,7 @@ use Rattle.lnt_records.specs.declared.fault.TableFault.{TableFault}
 use Rattle.lnt_records.specs.declared.fault.TableFault.TheVariants as fault
 use Rattle.lnt_compare.specs.declared.outcome.Compared.{Compared}
 use Rattle.lnt_compare.specs.declared.outcome.Compared.TheVariants.{Same, Fault, Differs}
-use Rattle.lnt_compare.specs.declared.by_path.answer.DifferenceByPath.{DifferenceByPath}
+use Rattle.lnt_compare.specs.declared.path_tables.answer.DifferenceByPath.{DifferenceByPath}
 use Rattle.lnt_table.specs.declared.kinds.OfKind.{OfKind}
 use Rattle.lnt_table.specs.declared.verdict.TableNo.{TableNo}
 use Rattle.lnt_table.specs.declared.verdict.TableNo.TheVariants as no

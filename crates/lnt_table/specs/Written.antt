@@ -7,8 +7,8 @@ use Rattle.lnt_spans.specs.declared.span.Span.{Span}
 use Rattle.lnt_spans.specs.Spans.{IsCanonical, span_answer, version_answer}
 use Rattle.lnt_sequences.specs.Sequences.{Selection}
 use Rattle.lnt_records.specs.Written.{IsWrittenTable}
-use Rattle.lnt_compare.specs.declared.by_path.write.PathTable.TheVariants.{OperationIndex}
-use Rattle.lnt_records.specs.declared.by_path.version.PathVersion.{PathVersion}
+use Rattle.lnt_compare.specs.declared.path_tables.write.PathTable.TheVariants.{OperationIndex}
+use Rattle.lnt_records.specs.declared.path_records.version.PathVersion.{PathVersion}
 use Rattle.lnt_records.specs.PathSpans.{PathAnswer}
 use Rattle.lnt_compare.specs.Canonical.{HasBecome, IsCanonicalPathTable}
 use Rattle.lnt_table.specs.Headline.{told_answer}

@@ -14,10 +14,10 @@ ghost use Rattle.lnt_table.specs.AskedTables.{IsAskedOf, IsReadByNumber, IsReadB
 ghost use Rattle.lnt_table.specs.Asked.{IsAsked, OfLive};
 ghost use Rattle.lnt_table.specs.Headline.{indexed_path, told_path};
 
+use crate::any_differing::differences_by_path;
 use crate::asked::{Asked, ask};
 use crate::kept::{ByNumber, ByPath};
 use crate::kinds::OfKind;
-use crate::stretches::differences_by_path;
 use crate::verdict::{TableNo, Verdict, verdict_of};
 use crate::within::{CheckedWithin, Coverage, Scope};
 use lnt_compare::{

@@ -5,7 +5,7 @@ ghost use Rattle.lnt_io.specs.declared.stop.Stop.TheVariants.{Read, TooLong};
 ghost use Rattle.lnt_table.specs.Headline.{IsTrueOfSection, IsTrueVerdict};
 ghost use Rattle.lnt_io.specs.Stopping.{CountsFailures, IsEitherTooLongOn};
 
-use crate::by_path::check_any;
+use crate::any_version::check_any;
 use crate::kinds::OfKind;
 use crate::verdict::{TableNo, Verdict};
 use lnt_io::{Source, Stop};

@@ -4,7 +4,7 @@ ghost use Rattle.lnt_lines.specs.Indexed.{OfUnits};
 ghost use Rattle.lnt_table.specs.Judged.{IsJudgedWith, coverage_in, coverage_of, part_checked, whole_checked};
 ghost use Rattle.lnt_io.specs.Stopping.{CountsFailure, IsTooLongOn};
 
-use crate::by_path::Checked;
+use crate::any_version::Checked;
 use crate::kinds::OfKind;
 use crate::paths::IndexPaths;
 use crate::verdict::verdict_of;

@@ -20,8 +20,9 @@
 #![tactic(auto)]
 
 mod any_copy;
+mod any_differing;
+mod any_version;
 mod asked;
-mod by_path;
 mod checking;
 mod copies;
 mod group;
@@ -32,7 +33,6 @@ pub mod laws;
 mod path_lines;
 mod paths;
 mod said;
-mod stretches;
 mod verdict;
 mod within;
 mod write;
@@ -40,7 +40,7 @@ mod wrong;
 
 // Checking.
 pub use any_copy::check_any_copy;
-pub use by_path::{Checked, check_any};
+pub use any_version::{Checked, check_any};
 pub use checking::check;
 pub use kinds::OfKind;
 pub use lnt_compare::{AnswerByPath, Compared, DifferenceByPath};
@@ -51,9 +51,9 @@ pub use verdict::{TableNo, Verdict};
 pub use within::{CheckedWithin, Coverage, Scope, check_within};
 
 // Every difference.
+pub use any_differing::{AnyDiffering, differences, differences_any, differences_by_path};
 pub use lnt_compare::{DifferencesByPath, Differing, HeldSpan, HeldTable, Remaining, TableRead};
 pub use lnt_spans::{Difference, Differences, SpanList};
-pub use stretches::{AnyDiffering, differences, differences_any, differences_by_path};
 
 // Every difference from the answers of all live sequences.
 pub use copies::Copies;

@@ -7,7 +7,7 @@ ghost use Rattle.lnt_table.specs.Judged.{within_scope};
 ghost use Rattle.lnt_table.specs.AnyVersion.{IsOfScope, IsTrueOfSectionWithin, IsTrueWithin, coverage_but, scope_in};
 ghost use Rattle.lnt_io.specs.Stopping.{IsEitherTooLongOn, CountsFailures};
 
-use crate::by_path::Checked;
+use crate::any_version::Checked;
 use crate::judged::{Judged, judge_index};
 use crate::kinds::OfKind;
 use crate::verdict::{TableNo, Verdict};

@@ -1,7 +1,7 @@
 //! Spans, tables, lines and sums.
-mod by_path;
 mod entries;
 mod lines;
+mod path_checks;
 mod records;
 mod spans;
 mod sums;

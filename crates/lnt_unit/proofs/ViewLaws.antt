@@ -14,7 +14,7 @@ use Rattle.lnt_unit.specs.UnitBytes.{UnitBytesIn}
 use Rattle.lnt_unit.specs.Views.{View, IsUnitView, with_ops}
 use Rattle.lnt_unit.specs.ConversionSteps.{HasGiven}
 
-pub given_none : (view : View) (walk : Walk) → walk.header ≡ view.header.numbers → walk.failed ≡ false → walk.at.place ≡ view.place
+pub given_none : (view : View) (walk : Walk) → walk.numbers ≡ view.header.numbers → walk.failed ≡ false → walk.at.place ≡ view.place
     → walk.at.rest ≡ view.program → walk.at.order ≡ view.header.numbers.order → HasGiven view [] walk
 given_none view walk same going place rest order =
     record { header_is = same; going = going; so = ops_none view.header.numbers view.place view.program walk.at place rest order }

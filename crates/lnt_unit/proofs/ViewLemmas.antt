@@ -32,7 +32,7 @@ pub record CountedTo (view : View) (count : ℕ) (walk : Walk) : Type 0 where
   pub count_is : count ≡ length ops
   pub few : count + length walk.at.rest ≤ length view.program
 
-pub counted_none : (view : View) (walk : Walk) → walk.header ≡ view.header.numbers → walk.failed ≡ false → walk.at.place ≡ view.place
+pub counted_none : (view : View) (walk : Walk) → walk.numbers ≡ view.header.numbers → walk.failed ≡ false → walk.at.place ≡ view.place
     → walk.at.rest ≡ view.program → walk.at.order ≡ view.header.numbers.order → CountedTo view 0 walk
 counted_none view walk same going place rest order =
     record { ops = []; given = given_none view walk same going place rest order; count_is = refl; few = omega (arith, ap length rest) }

@@ -24,7 +24,7 @@ use Rattle.lnt_unit.specs.declared.convert.ConvertFault.TheVariants.{Malformed, 
 
 -- A walk over the program is after these operations, and none failed.
 pub record HasGiven (view : View) (ops : List Op) (walk : Walk) : Type 0 where
-  pub header_is : walk.header ≡ view.header.numbers
+  pub header_is : walk.numbers ≡ view.header.numbers
   pub going : walk.failed ≡ false
   pub so : OpsSoFar view.header.numbers view.place view.program ops walk.at
 

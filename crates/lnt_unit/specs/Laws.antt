@@ -39,7 +39,7 @@ pub record OneTrueFault : Type 0 where
 
 -- A walk over the program of a view that has given nothing yet, as `ops` gives it.
 pub record BeginsOf (view : View) (walk : Walk) : Type 0 where
-  pub header_is : walk.header ≡ view.header.numbers
+  pub header_is : walk.numbers ≡ view.header.numbers
   pub place_is : walk.at.place ≡ view.place
   pub rest_is : walk.at.rest ≡ view.program
   pub order_is : walk.at.order ≡ view.header.numbers.order

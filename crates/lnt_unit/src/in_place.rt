@@ -102,7 +102,7 @@ impl<'a> UnitInPlace<'a> {
     /// Only the header's numbers are needed to read them. If all operations are valid, the bytes encode the unit with the
     /// header and these operations; if one isn't, they encode no unit (`laws::whole_walk`).
     pub fn ops(&self) -> Ops<'_>
-        ensures header { result.header ≡ self.now.header.numbers }
+        ensures header { result.numbers ≡ self.now.header.numbers }
         ensures place { result.at.place ≡ self.now.place }
         ensures rest { result.at.rest ≡ self.now.program }
         ensures order { result.at.order ≡ self.now.header.numbers.order }

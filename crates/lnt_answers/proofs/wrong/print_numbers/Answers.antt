@@ -5,7 +5,7 @@ use Rattle.lnt_spans.specs.Differences.{stretch_of}
 use Rattle.lnt_sequences.specs.Sequences.{line_answer}
 use Rattle.lnt_answers.proofs.GivenLemmas.{first_wrong}
 use Rattle.lnt_answers.proofs.ScopeLemmas.{end_begun, end_told, wrong_begun, wrong_printed}
-use Rattle.lnt_answers.proofs.StretchLemmas.{number_fault, numbers_ended, numbers_so, other_fault}
+use Rattle.lnt_answers.proofs.StretchLemmas.{number_fault, numbers_ended, holds_by_number, other_fault}
 use Rattle.lnt_answers.proofs.wrong.print_numbers.Goals as goal
 
 pub returns-in_err-print_line-in-Fault-clause-begun : goal.returns-in_err-print_line-in-Fault-clause-begun
@@ -27,7 +27,7 @@ returns-in_err-coverage-in-Table-clause-begun g c =
     (c.in_ok-fault.ensures.differing all.spans (line_answer selection) all.to_come all.in_order all.answers) in
     inr (
       c.requires.copies,
-      inl (numbers_so selection c.args.text.now c.args.version _ _ c.requires.begins told (λ f f' same found.
+      inl (holds_by_number selection c.args.text.now c.args.version _ _ c.requires.begins told (λ f f' same found.
           wrong_begun stretch_of _ c.requires.copies (λ now given so. first_wrong so)
           (c.in_err-coverage-in-Table.ensures.begun
           (record { scope = c.args.report.scope; tell = in_version c.args.version; selection = selection; by_section = f; by_table = f' })
@@ -46,7 +46,7 @@ returns-in_err-status-in-Table-clause-begun g c =
     let told = rw c.in-Table.is at
     (c.in_ok-fault.ensures.differing all.spans (line_answer selection) all.to_come all.in_order all.answers) in
     numbers_ended c.args.report c.args.index.now selection c.args.text.now
-    (numbers_so selection c.args.text.now c.args.version _ _ c.requires.begins told (λ f f' same found.
+    (holds_by_number selection c.args.text.now c.args.version _ _ c.requires.begins told (λ f f' same found.
     end_begun
     (wrong_printed stretch_of _ c.requires.copies
     (c.in_ok-coverage-in-Table.ensures.lines
@@ -70,7 +70,7 @@ returns-in_ok-status-in-Table-clause-printed g c selection is live =
     let all = c.spans.ensures.gives selection is in
     let told = rw c.in-Table.is at
     (c.in_ok-fault.ensures.differing all.spans (line_answer selection) all.to_come all.in_order all.answers) in
-    numbers_so selection c.args.text.now c.args.version _ _ c.requires.begins told (λ f f' same found.
+    holds_by_number selection c.args.text.now c.args.version _ _ c.requires.begins told (λ f f' same found.
     end_told
     (wrong_printed stretch_of _ c.requires.copies
     (c.in_ok-coverage-in-Table.ensures.lines

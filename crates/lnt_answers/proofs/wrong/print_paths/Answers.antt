@@ -1,6 +1,6 @@
 use Rattle.std.proofs.Common.{List, inr, map, refl, rules, subst, sym}
 use Rattle.lnt_io.proofs.PrefixLaws.{so_stopped}
-use Rattle.lnt_compare.specs.declared.by_path.held.HeldSpan.{HeldSpan}
+use Rattle.lnt_compare.specs.declared.path_tables.held.HeldSpan.{HeldSpan}
 use Rattle.lnt_compare.specs.Held.{held_span}
 use Rattle.lnt_compare.specs.PathStretches.{stretch_of}
 use Rattle.lnt_records.specs.PathSpans.{StandInOrder, path_answer, path_span_answer}
@@ -8,7 +8,7 @@ use Rattle.lnt_records.specs.PathTables.{IsPathTableOf}
 use Rattle.lnt_table.specs.Headline.{indexed_path, told_path}
 use Rattle.lnt_answers.proofs.GivenLemmas.{first_wrong}
 use Rattle.lnt_answers.proofs.ScopeLemmas.{end_begun, end_told, wrong_begun, wrong_printed}
-use Rattle.lnt_answers.proofs.StretchLemmas.{path_fault, paths_ended, paths_so, told_as}
+use Rattle.lnt_answers.proofs.StretchLemmas.{path_fault, paths_ended, holds_by_path, told_as}
 use Rattle.lnt_answers.proofs.wrong.print_paths.Goals as goal
 
 pub returns-in_err-print_line-in-Fault-clause-begun : goal.returns-in_err-print_line-in-Fault-clause-begun
@@ -32,7 +32,7 @@ returns-in_err-coverage-in-Table-clause-begun g c =
     (sym c.deref.ensures.value) (rw c.in-Table.is at c.in_ok-fault.ensures.held) in
     inr (
       c.requires.copies,
-      inr (paths_so c.args.index.now selection c.args.text.now version (map held_span held) _ is_table
+      inr (holds_by_path c.args.index.now selection c.args.text.now version (map held_span held) _ is_table
           (wrong_begun stretch_of _ c.requires.copies (λ now given so. first_wrong so)
           (c.in_err-coverage-in-Table.ensures.begun
           (record {
@@ -63,7 +63,7 @@ returns-in_err-status-in-Table-clause-begun g c =
     let is_table = subst (λ (spans : List HeldSpan). IsPathTableOf version c.args.text.now (map held_span spans))
     (sym c.deref.ensures.value) (rw c.in-Table.is at c.in_ok-fault.ensures.held) in
     paths_ended c.args.report c.args.index.now selection c.args.text.now
-    (paths_so c.args.index.now selection c.args.text.now version (map held_span held) _ is_table
+    (holds_by_path c.args.index.now selection c.args.text.now version (map held_span held) _ is_table
     (end_begun
     (wrong_printed stretch_of _ c.requires.copies
     (c.in_ok-coverage-in-Table.ensures.lines
@@ -92,7 +92,7 @@ returns-in_ok-status-in-Table-clause-printed g c selection is live =
     (rw c.in-Table.is at c.in_ok-fault.ensures.in_order) in
     let is_table = subst (λ (spans : List HeldSpan). IsPathTableOf version c.args.text.now (map held_span spans))
     (sym c.deref.ensures.value) (rw c.in-Table.is at c.in_ok-fault.ensures.held) in
-    paths_so c.args.index.now selection c.args.text.now version (map held_span held) _ is_table
+    holds_by_path c.args.index.now selection c.args.text.now version (map held_span held) _ is_table
     (end_told
     (wrong_printed stretch_of _ c.requires.copies
     (c.in_ok-coverage-in-Table.ensures.lines

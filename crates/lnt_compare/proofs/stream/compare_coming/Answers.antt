@@ -1,7 +1,7 @@
 use Rattle.std.proofs.Common.{ℕ, List, [], ◌∷◌, arith}
 use Rattle.lnt_records.specs.Reading.{IsNarrow}
 use Rattle.lnt_records.specs.Table.{BeginsWith, Fields}
-use Rattle.lnt_compare.proofs.StreamLaws.{rest_so}
+use Rattle.lnt_compare.proofs.StreamLaws.{holds_of_rest}
 use Rattle.lnt_compare.proofs.WindowLaws.{longer_from_start, passes_both}
 use Rattle.lnt_compare.proofs.stream.compare_coming.Goals as goal
 
@@ -23,7 +23,7 @@ returns-in_err-text-clause-too_long g c e =
 pub compare_after-requires-clause-first : goal.compare_after-requires-clause-first
 compare_after-requires-clause-first g c =
     let ends = rw (← c.deref.ensures.value) at c.in_ok-text.ensures.ok in
-    rest_so (λ (text : List ℕ). (first : Fields) × IsNarrow first × BeginsWith text (first ∷ [])) _ _ _ c.push_lines.new.window
+    holds_of_rest (λ (text : List ℕ). (first : Fields) × IsNarrow first × BeginsWith text (first ∷ [])) _ _ _ c.push_lines.new.window
     c.deref.result.now (rw c.header.ensures at ends) c.requires.first
 
 pub returns-clause-ok : goal.returns-clause-ok

@@ -9,7 +9,8 @@ pub returns-in_err-form-clause-err : goal.returns-in_err-form-clause-err
 returns-in_err-form-clause-err c =
     let p = err_from_is_err_and c.from_residual.result c.from_residual.ensures.1 in
     rw (p.1, p.2) (λ some. refuses_values_at c.args.format c.args.pairs.now c.loop-pair.pair-index _ c.loop-pair.values.items
-    c.args.cursor.now c.loop-pair.cursor c.in_err-form.field-0.0 c.loop-pair-test.true c.loop-pair.invariant (c.in_err-form.ensures.err some))
+    c.args.cursor.now c.loop-pair.cursor c.in_err-form.field-0.0 c.loop-pair-test.true c.loop-pair.invariant
+    (c.in_err-form.ensures.err some))
 
 pub loop-pair-preserved : goal.loop-pair-preserved
 loop-pair-preserved c =

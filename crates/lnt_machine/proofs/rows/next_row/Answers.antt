@@ -17,7 +17,7 @@ returns-in_err-row-clause-err c =
 pub loop-op-preserved : goal.loop-op-preserved
 loop-op-preserved c =
     let step = gives_op c.in_ok-op.was c.in-Some.ensures.steps in (
-      rw (c.in_ok-row.ensures.ok.machine.header, step.header_is) c.loop-op.invariant.0,
+      rw (c.in_ok-row.ensures.ok.machine.numbers, step.header_is) c.loop-op.invariant.0,
       omega (arith, step.shorter, c.loop-op.invariant.1),
       passes_more c.loop-op.invariant.2 step c.in_ok-row.ensures.ok c.in_default-2.not-Some,
     )
@@ -45,12 +45,12 @@ returns-in_err-op-clause-same c = c.loop-op.invariant.0 ∙ sym (fails_op c.in_e
 
 pub returns-in_err-row-clause-same : goal.returns-in_err-row-clause-same
 returns-in_err-row-clause-same c =
-    ap (λ (r : RunState). r.machine.header) c.in_err-row.ensures.unchanged ∙ c.loop-op.invariant.0
+    ap (λ (r : RunState). r.machine.numbers) c.in_err-row.ensures.unchanged ∙ c.loop-op.invariant.0
     ∙ sym (gives_op c.in_ok-op.was c.in-Some.ensures.steps).header_is
 
 pub returns-in-Some-2-clause-same : goal.returns-in-Some-2-clause-same
 returns-in-Some-2-clause-same c =
-    c.in_ok-row.ensures.ok.machine.header ∙ c.loop-op.invariant.0 ∙ sym (gives_op c.in_ok-op.was c.in-Some.ensures.steps).header_is
+    c.in_ok-row.ensures.ok.machine.numbers ∙ c.loop-op.invariant.0 ∙ sym (gives_op c.in_ok-op.was c.in-Some.ensures.steps).header_is
 
 pub returns-in-Some-2-clause-shorter : goal.returns-in-Some-2-clause-shorter
 returns-in-Some-2-clause-shorter c =
@@ -80,7 +80,7 @@ returns-clause-ok c = record {
 }
 
 pub returns-clause-same : goal.returns-clause-same
-returns-clause-same c = c.loop-op.invariant.0 ∙ ap (λ (w : Walk). w.header) (sym c.in_default.ensures.steps.unchanged)
+returns-clause-same c = c.loop-op.invariant.0 ∙ ap (λ (w : Walk). w.numbers) (sym c.in_default.ensures.steps.unchanged)
 
 pub returns-then-is_open-clause-same : goal.returns-then-is_open-clause-same
-returns-then-is_open-clause-same c = c.loop-op.invariant.0 ∙ ap (λ (w : Walk). w.header) (sym c.in_default.ensures.steps.unchanged)
+returns-then-is_open-clause-same c = c.loop-op.invariant.0 ∙ ap (λ (w : Walk). w.numbers) (sym c.in_default.ensures.steps.unchanged)

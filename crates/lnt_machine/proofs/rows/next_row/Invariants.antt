@@ -4,5 +4,5 @@ use Rattle.lnt_machine.proofs.rows.next_row.Given as goal
 
 abbrev pub invariant-loop-op : goal.invariant-loop-op
 invariant-loop-op l =
-    (l.run.machine.header ≡ l.ops.header) × (length l.ops.at.rest ≤ length l.fn.ops.at.rest)
+    (l.run.machine.numbers ≡ l.ops.numbers) × (length l.ops.at.rest ≤ length l.fn.ops.at.rest)
     × RunsToRow l.fn.run l.fn.ops l.run l.ops

@@ -13,7 +13,7 @@ returns-then-appends-clause-gives c h rows has =
 pub loop-op-preserved : goal.loop-op-preserved
 loop-op-preserved c =
     let step = c.in-Some.ensures.steps in (
-      rw (c.in-Ok.ensures.ok.header, step.header_is) c.loop-op.invariant.0,
+      rw (c.in-Ok.ensures.ok.numbers, step.header_is) c.loop-op.invariant.0,
       omega (arith, step.shorter, c.loop-op.invariant.1),
       λ h rows has. next_quiet (c.loop-op.invariant.2 h rows has) step c.in-Ok.ensures.ok (none_put _ _ c.if-appends.false),
     )

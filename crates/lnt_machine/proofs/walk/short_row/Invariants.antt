@@ -6,7 +6,7 @@ use Rattle.lnt_machine.proofs.walk.short_row.Given as goal
 
 abbrev pub invariant-loop-op : goal.invariant-loop-op
 invariant-loop-op l =
-    (l.machine.header ≡ l.ops.header) × (length l.ops.at.rest ≤ length l.fn.ops.at.rest)
+    (l.machine.numbers ≡ l.ops.numbers) × (length l.ops.at.rest ≤ length l.fn.ops.at.rest)
     × ((h : NumberParts) (rows : List Row) → HasRows h rows l.fn.machine l.fn.ops → HasRows h rows l.machine l.ops)
 
 abbrev pub decreases-loop-op : goal.decreases-loop-op

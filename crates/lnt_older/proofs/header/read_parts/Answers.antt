@@ -18,11 +18,13 @@ returns-in_err-files-clause-err c =
     let fault = c.in_err-files.field-0.0 in
     let directories = c.in_ok-directories.ensures.ok in
     rw (p.1, p.2) (files_missing c.args.version c.args.format c.in_ok-numbers.numbers c.in_ok-standard_lengths.standard_lengths.now
-    directories.entries old c.read_singles.new.cursor c.read_lengths.new.cursor c.pass_listed.new.cursor fault (rw (← c.has_max_ops.ensures) c.in_ok-numbers.ensures.ok)
+    directories.entries old c.read_singles.new.cursor c.read_lengths.new.cursor c.pass_listed.new.cursor fault
+    (rw (← c.has_max_ops.ensures) c.in_ok-numbers.ensures.ok)
     c.in_ok-standard_lengths.ensures.ok directories.read c.in_err-files.ensures.err)
 
 pub returns-clause-ok : goal.returns-clause-ok
 returns-clause-ok c =
     parts_read c.args.version c.args.format _ c.args.cursor.now c.read_singles.new.cursor c.read_lengths.new.cursor c.pass_listed.new.cursor
-    c.pass_listed-2.new.cursor (rw (← c.has_max_ops.ensures) c.in_ok-numbers.ensures.ok) c.in_ok-standard_lengths.ensures.ok c.in_ok-directories.ensures.ok
+    c.pass_listed-2.new.cursor (rw (← c.has_max_ops.ensures) c.in_ok-numbers.ensures.ok) c.in_ok-standard_lengths.ensures.ok
+    c.in_ok-directories.ensures.ok
     c.in_ok-files.ensures.ok c.rest.ensures

@@ -63,7 +63,7 @@ owned_op-requires c =
     let step : GivesOperation c.in_ok-view.field-0 c.loop-view.view-iterator c.next.new.self =
     subst (λ (r : Result OpView Fault). WalkStep c.loop-view.view-iterator (Some r) c.next.new.self) c.in_ok-view.was
     c.in-Some.ensures.steps in
-    is_view c.loop-view.view-iterator.header c.in_ok-view.field-0 c.loop-view.view-iterator.at c.next.new.self.at step.gives
+    is_view c.loop-view.view-iterator.numbers c.in_ok-view.field-0 c.loop-view.view-iterator.at c.next.new.self.at step.gives
 
 pub returns-in_err-view-clause-ok : goal.returns-in_err-view-clause-ok
 returns-in_err-view-clause-ok c = rw (err_from_is_err_and c.from_residual.result c.from_residual.ensures.1).1 tt

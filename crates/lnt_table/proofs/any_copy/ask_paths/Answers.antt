@@ -1,6 +1,6 @@
 use Rattle.std.proofs.Common.{List, map, subst, sym}
 use Rattle.lnt_records.specs.PathSpans.{StandInOrder}
-use Rattle.lnt_compare.specs.declared.by_path.held.HeldSpan.{HeldSpan}
+use Rattle.lnt_compare.specs.declared.path_tables.held.HeldSpan.{HeldSpan}
 use Rattle.lnt_compare.specs.Held.{held_span}
 use Rattle.lnt_table.proofs.AnyCopyLemmas.{paths_read}
 use Rattle.lnt_table.proofs.any_copy.ask_paths.Goals as goal

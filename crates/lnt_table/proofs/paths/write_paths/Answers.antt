@@ -1,9 +1,9 @@
 use Rattle.std.proofs.Common.{◌∙◌, sym}
 use Rattle.std.proofs.lemmas.Result.{IfOk-weaker, on_err_weaker}
-use Rattle.lnt_compare.specs.declared.by_path.write.PathTable.TheVariants.{Written}
+use Rattle.lnt_compare.specs.declared.path_tables.write.PathTable.TheVariants.{Written}
 use Rattle.lnt_records.specs.PathSpans.{spans_by_path}
 use Rattle.lnt_table.specs.Headline.{indexed_path, told_path}
-use Rattle.lnt_table.proofs.PathLemmas.{becomes_so, paths_begun}
+use Rattle.lnt_table.proofs.PathLemmas.{becomes_of_same, paths_begun}
 use Rattle.lnt_table.proofs.UnitPathLemmas.{told_by_units}
 use Rattle.lnt_io.proofs.PrefixLaws.{so_stopped}
 use Rattle.lnt_table.proofs.paths.write_paths.Goals as goal
@@ -13,7 +13,7 @@ returns-clause-table g c = IfOk-weaker c.write_by_path.result _ _
     (λ table become selection is.
     let judged = c.spans-2.ensures.gives selection is in
     let all = c.spans-3.ensures.gives selection is in
-    becomes_so c.args.version (spans_by_path c.args.version (indexed_path c.args.index.now) all.spans)
+    becomes_of_same c.args.version (spans_by_path c.args.version (indexed_path c.args.index.now) all.spans)
     (told_path c.args.version c.args.index.now selection)
     (g.W.Write.contents c.args.out.now) (g.W.Write.contents c.write_by_path.new.out) table
     (told_by_units c.args.version c.args.index.now selection all.spans is all.answers)
@@ -24,7 +24,7 @@ pub returns-then-has_single_operations-clause-table : goal.returns-then-has_sing
 returns-then-has_single_operations-clause-table g c selection is =
     let all = c.spans.ensures.gives selection is in
     let single = c.has_single_operations.ensures.spans c.if-has_single_operations.true selection is all.spans all.spans_are in
-    becomes_so c.args.version (spans_by_path c.args.version (indexed_path c.args.index.now) all.spans)
+    becomes_of_same c.args.version (spans_by_path c.args.version (indexed_path c.args.index.now) all.spans)
     (told_path c.args.version c.args.index.now selection)
     (g.W.Write.contents c.args.out.now) (g.W.Write.contents c.write_instructions_by_path.new.out) Written
     (told_by_units c.args.version c.args.index.now selection all.spans is all.answers)

@@ -1,7 +1,7 @@
 use Rattle.std.proofs.Common.{◌∙◌}
 use Rattle.std.proofs.lemmas.Result.{on_err_weaker, on_ok_weaker}
 use Rattle.lnt_compare.proofs.WrittenLaws.{whole_canonical}
-use Rattle.lnt_table.proofs.CheckLemmas.{told_so}
+use Rattle.lnt_table.proofs.CheckLemmas.{same_in_version}
 use Rattle.lnt_table.proofs.write.write_index.Goals as goal
 
 pub write_canonical-requires : goal.write_canonical-requires
@@ -22,7 +22,7 @@ returns-clause-table g c =
           record {
             spans = table.spans;
             canonical = table.canonical;
-            same = λ p. table.same p ∙ told_so c.args.version selection all.spans all.answers p;
+            same = λ p. table.same p ∙ same_in_version c.args.version selection all.spans all.answers p;
             written = table.written;
           },
     ))
@@ -40,7 +40,7 @@ returns-clause-begun g c =
       is_table = record {
         spans = table.1.spans;
         canonical = table.1.canonical;
-        same = λ p. table.1.same p ∙ told_so c.args.version selection all.spans all.answers p;
+        same = λ p. table.1.same p ∙ same_in_version c.args.version selection all.spans all.answers p;
         written = table.1.written;
       };
       prefix = begun.of_whole table.0 table.1;

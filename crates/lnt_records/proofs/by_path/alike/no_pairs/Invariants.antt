@@ -1,6 +1,0 @@
-use Rattle.std.proofs.Common.{ℕ, List}
-use Rattle.lnt_records.specs.KeptPaths.{ArePairsOf}
-use Rattle.lnt_records.proofs.by_path.alike.no_pairs.Given as goal
-
-abbrev pub invariant-loop : goal.invariant-loop
-invariant-loop l = (path : ℕ → ℕ → List ℕ) → ArePairsOf path l.pairs.items

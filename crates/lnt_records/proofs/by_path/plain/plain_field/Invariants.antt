@@ -1,6 +1,0 @@
-use Rattle.std.proofs.Common.{take, All}
-use Rattle.lnt_records.specs.PathLines.{IsPlainByte}
-use Rattle.lnt_records.proofs.by_path.plain.plain_field.Given as goal
-
-abbrev pub invariant-loop-i : goal.invariant-loop-i
-invariant-loop-i l = All IsPlainByte (take l.i l.text)
