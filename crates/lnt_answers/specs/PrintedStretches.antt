@@ -16,8 +16,7 @@ use Rattle.lnt_table.specs.declared.within.CheckedWithin.{CheckedWithin}
 use Rattle.lnt_table.specs.declared.within.CheckedWithin.TheVariants as within
 use Rattle.lnt_table.specs.declared.within.Scope.{Scope}
 use Rattle.lnt_table.specs.declared.within.Scope.TheVariants.{All, Answered}
-use Rattle.lnt_table.specs.FaultTexts.{path_stretch_text, table_no_text}
-use Rattle.lnt_text.specs.Texts.{stretch_text}
+use Rattle.lnt_table.specs.FaultTexts.{path_stretch_text, stretch_text, table_no_text}
 use Rattle.lnt_answers.specs.declared.report.Report.{Report}
 use Rattle.lnt_answers.specs.Verdicts.{checked_line, checked_status}
 use Rattle.lnt_io.specs.Prefixes.{AppendsPrefix, HasBegun}

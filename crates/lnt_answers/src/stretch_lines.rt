@@ -8,8 +8,7 @@ ghost use Rattle.lnt_io.specs.IoStops.{IsPrinting};
 use crate::display::put_text;
 use lnt_io::{IoStop, write_whole};
 use lnt_spans::{Difference, Position};
-use lnt_table::{Coverage, DifferenceByPath, PathDifferenceLine, Scope};
-use lnt_text::DifferenceLine;
+use lnt_table::{Coverage, DifferenceByPath, DifferenceLine, PathDifferenceLine, Scope};
 use std::alloc::{AllocError, Global};
 use std::io::Write;
 

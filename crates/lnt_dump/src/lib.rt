@@ -1,6 +1,7 @@
-//! The units of a section as text: their frames, headers, operations and rows; and the section in another format.
+//! Prints what is read of a section without judging its lines: its units as text, with their frames, headers, operations and rows; the
+//! section in another format and byte order; and the section with its older units in version 5.
 //!
-//! [`print_units`], [`print_dump`] and [`print_converted`] read the section from a source, don't judge its lines, and write
+//! [`print_units`], [`print_dump`] and [`print_converted`] read the section from a source, and [`print_upgraded`] from memory. All write
 //! to a writer. Bytes that aren't a unit get a line that says so.
 #![tactic(auto)]
 

@@ -6,8 +6,8 @@ ghost use Rattle.lnt_table.specs.AnyVersion.{IsTrueCheck, IsTrueCheckOfSection};
 ghost use Rattle.lnt_table.specs.FaultTexts.{checked_text};
 ghost use Rattle.lnt_io.specs.Stopping.{IsEitherTooLongOn, CountsFailures};
 
+use crate::difference_lines::PathDifferenceLine;
 use crate::kinds::OfKind;
-use crate::path_lines::PathDifferenceLine;
 use crate::verdict::{TableNo, Verdict};
 use crate::within::{CheckedWithin, Scope, check_within};
 use lnt_compare::{Compared, DifferenceByPath};

@@ -4,11 +4,11 @@ ghost use Rattle.lnt_records.specs.declared.fault.TableFault.{TableFault as Tabl
 ghost use Rattle.lnt_table.specs.FaultTexts.{table_no_text, verdict_text};
 ghost use Rattle.lnt_table.specs.Verdicts.{no_of_fault, verdict_of};
 
+use crate::difference_lines::DifferenceLine;
 use lnt_compare::Compared;
 use lnt_lines::No;
 use lnt_records::TableFault;
 use lnt_spans::{Answer, Difference, Position};
-use lnt_text::DifferenceLine;
 use std::fmt;
 
 /// Whether a table answers as a section does.

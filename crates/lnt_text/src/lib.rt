@@ -5,9 +5,7 @@
 //! What is written has no leading zeros, and its letters are in lower case, so each number has one such text.
 #![tactic(auto)]
 
-mod answer;
 mod delimited;
-mod difference;
 mod fault;
 pub mod laws;
 mod note;
@@ -19,7 +17,6 @@ mod read;
 mod shown;
 
 pub use delimited::{address_until, decimal_until, past};
-pub use difference::{DifferenceLine, EndText};
 pub use fault::MalformedLine;
 pub use note::{Argument, Column, Look, Note, RecordRule, StringSection};
 pub use position::PositionText;
