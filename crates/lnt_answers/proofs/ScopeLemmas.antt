@@ -18,13 +18,16 @@ use Rattle.lnt_spans.specs.Laws.{answered_stretches, if_some}
 use Rattle.lnt_spans.proofs.AmongLemmas.{mistakes_among}
 use Rattle.lnt_spans.proofs.StretchLaws.{AllAfter, HasEnd}
 use Rattle.lnt_table.specs.AnyCopy.{AreAllWrong, AreFirstWrong, EndsWrong}
+use Rattle.lnt_table.specs.Judged.{told_right}
+use Rattle.lnt_table.specs.declared.kinds.OfKind.TheVariants.{Numbered}
+use Rattle.lnt_table.specs.declared.verdict.Verdict.TheVariants.{Yes}
 use Rattle.lnt_table.specs.declared.within.Coverage.{Coverage}
 use Rattle.lnt_table.specs.declared.within.Scope.{Scope}
 use Rattle.lnt_table.specs.declared.within.Scope.TheVariants.{All, Answered}
 use Rattle.lnt_answers.specs.declared.report.Report.{Report}
 use Rattle.lnt_answers.specs.PrintedStretches.{AreAllIn, AreFirstPrinted, AreStretchesPrinted, EndsIn, HaveEnds, IsEndTold, ToldStretch}
 use Rattle.lnt_answers.specs.PrintedStretches.{answer_if_none, lines_or, stretches_status, told_with}
-use Rattle.lnt_answers.specs.Stepping.{AreBegun, AreEndsTold, ArePrinted, ToldDifference, answer_of, coverage_of, differences_of}
+use Rattle.lnt_answers.specs.Stepping.{AreBegun, AreEndsTold, ArePrinted, ToldDifference, coverage_of, differences_of}
 use Rattle.lnt_answers.specs.Stepping.{end_status, end_text, if_none, told_in}
 use Rattle.lnt_answers.specs.Verdicts.{checked_line, checked_status}
 use Rattle.lnt_answers.proofs.GivenLemmas.{each_append}
@@ -280,7 +283,8 @@ module _ {D X : Type 0} (of : D → Stretch X) {line : ToldStretch X → List �
 -- ---- the end
 
 -- what the table answers of all
-end_answer : {X : Type 0} (scope : Scope) (f g : Position → Option X) → answer_of scope (coverage_of f g) ≡ answer_if_none scope f g
+end_answer : {X : Type 0} (scope : Scope) (f g : Position → Option X)
+    → told_right scope (coverage_of f g) (Numbered Yes) ≡ answer_if_none scope f g
 end_answer All f g = refl
 end_answer Answered f g = refl
 

@@ -13,12 +13,11 @@ use Rattle.lnt_io.specs.declared.status.Status.{Status}
 use Rattle.lnt_io.specs.declared.status.Status.TheVariants.{No}
 use Rattle.lnt_table.specs.declared.kinds.OfKind.TheVariants.{Numbered}
 use Rattle.lnt_table.specs.declared.verdict.Verdict.TheVariants.{Yes}
-use Rattle.lnt_table.specs.declared.within.CheckedWithin.{CheckedWithin}
-use Rattle.lnt_table.specs.declared.within.CheckedWithin.TheVariants.{Checked as Printed, Covered}
 use Rattle.lnt_table.specs.declared.within.Coverage.{Coverage}
 use Rattle.lnt_table.specs.declared.within.Scope.{Scope}
 use Rattle.lnt_table.specs.declared.within.Scope.TheVariants.{All, Answered}
 use Rattle.lnt_table.specs.declared.wrong.WrongStretches.{WrongStretches}
+use Rattle.lnt_table.specs.Judged.{told_right}
 use Rattle.lnt_table.specs.WrongStretches.{HasFoundWrong}
 use Rattle.lnt_answers.specs.declared.report.Report.{Report}
 use Rattle.lnt_answers.specs.PrintedStretches.{IsEndTold}
@@ -119,14 +118,10 @@ pub record HasGivenWrong {K D X : Type 0} (tell : K → Answer → X) (value_of 
 -- ---- where there is no stretch
 --     coverage    how much the table answers, if there is no stretch
 
-abbrev pub answer_of : Scope → Coverage → CheckedWithin
-answer_of All coverage = Printed (Numbered Yes)
-answer_of Answered coverage = Covered coverage
-
 abbrev pub end_text : Report → Option Coverage → List ℕ
 end_text report None = []
-end_text report (Some coverage) = checked_line report.at_least (answer_of report.scope coverage)
+end_text report (Some coverage) = checked_line report.at_least (told_right report.scope coverage (Numbered Yes))
 
 abbrev pub end_status : Report → Option Coverage → Status
 end_status report None = No
-end_status report (Some coverage) = checked_status report.at_least (answer_of report.scope coverage)
+end_status report (Some coverage) = checked_status report.at_least (told_right report.scope coverage (Numbered Yes))

@@ -2,7 +2,7 @@
 ghost use Rattle.std.specs.Prelude.{◌≡◌, ◌-◌, ◌^◌, ◌<◌, false, IfErr, IfOk, OnErr, OnOk};
 ghost use Rattle.std.specs.Io.KnownBytes.{Appends};
 ghost use Rattle.lnt_answers.specs.PrintedStretches.{BeginsStretches, IsFaultPrinted, AreStretchesOfIndex};
-ghost use Rattle.lnt_answers.specs.Stepping.{answer_of, end_status, end_text};
+ghost use Rattle.lnt_answers.specs.Stepping.{end_status, end_text};
 ghost use Rattle.lnt_io.specs.Prefixes.{AppendsPrefix};
 ghost use Rattle.lnt_io.specs.IoStops.{IsPrinting};
 ghost use Rattle.lnt_io.specs.Stopping.{CountsFailure, IsTooLongOn};
@@ -15,8 +15,7 @@ use lnt_io::{IoStop, Source, Status, print_line};
 use lnt_lines::Index;
 use lnt_records::TableFault;
 use lnt_table::{
-    CheckedWithin, Coverage, IndexPaths, OfKind, Scope, TableNo, Verdict, differences_any,
-    differences_by_path,
+    Coverage, IndexPaths, OfKind, TableNo, Verdict, differences_any, differences_by_path,
 };
 use std::alloc::Global;
 use std::io::Write;
@@ -132,17 +131,8 @@ pub(crate) fn print_end<W: Write>(
     let Some(coverage) = coverage else {
         return Ok(Status::No);
     };
-    let checked = answer_if_none(report.scope, coverage);
+    let yes = OfKind::Numbered(Verdict::Yes);
+    let checked = report.scope.answer_if_right(coverage, yes);
     print_line(alloc, &CheckLine(&checked, report.at_least), out)?;
     Ok(status_of(&checked, report.at_least))
-}
-
-// The answer if there is no stretch in the scope, and the table answers so much.
-fn answer_if_none(scope: Scope, coverage: Coverage) -> CheckedWithin
-    ensures { result ≡ answer_of scope coverage }
-{
-    match scope {
-        Scope::All => CheckedWithin::Checked(OfKind::Numbered(Verdict::Yes)),
-        Scope::Answered => CheckedWithin::Covered(coverage),
-    }
 }

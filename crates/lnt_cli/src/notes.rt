@@ -77,36 +77,9 @@ impl<'t> Answered<'t> {
     ) -> Answered<'t>
         ensures { result.status ≡ checked_status asked.at_least checked.now }
     {
-        match checked {
-            CheckedWithin::Covered(coverage) if coverage.all > 0 => Answered {
-                status: status_of(checked, asked.at_least),
-                occasion: Occasion::Part,
-            },
-            CheckedWithin::Covered(_)
-            | CheckedWithin::Checked(
-                OfKind::Numbered(Verdict::Yes) | OfKind::ByPath(Compared::Same),
-            ) => Answered {
-                status: status_of(checked, asked.at_least),
-                occasion: Occasion::Compared(table),
-            },
-            CheckedWithin::Checked(OfKind::Numbered(Verdict::No(TableNo::Section(no)))) => {
-                Answered::no(Occasion::Bad(*no))
-            }
-            CheckedWithin::Checked(
-                OfKind::Numbered(Verdict::No(TableNo::Differs { position, .. })),
-            ) => Answered::no(differs_at(*position, asked, table)),
-            CheckedWithin::Checked(OfKind::Numbered(Verdict::No(no))) => {
-                Answered::no(match no.fault() {
-                    Some(fault) => Occasion::Faulty(table, fault, Columns::Numbered),
-                    None => Occasion::Compared(table),
-                })
-            }
-            CheckedWithin::Checked(OfKind::ByPath(Compared::Fault(fault))) => {
-                Answered::no(Occasion::Faulty(table, *fault, Columns::ByPath))
-            }
-            CheckedWithin::Checked(OfKind::ByPath(Compared::Differs(difference))) => {
-                Answered::no(differs_at(difference.position, asked, table))
-            }
+        Answered {
+            status: status_of(checked, asked.at_least),
+            occasion: occasion_of(checked, asked, table),
         }
     }
 
@@ -130,6 +103,32 @@ impl<'t> Answered<'t> {
                 },
             },
         }
+    }
+}
+
+// What notes depend on if this is answered to the check of the table in the file with this name.
+fn occasion_of<'t>(checked: &CheckedWithin, asked: TableCheck, table: &'t str) -> Occasion<'t> {
+    let checked = match checked {
+        CheckedWithin::Covered(coverage) if coverage.all > 0 => return Occasion::Part,
+        CheckedWithin::Covered(_) => return Occasion::Compared(table),
+        CheckedWithin::Checked(checked) => checked,
+    };
+    match checked {
+        OfKind::Numbered(Verdict::No(TableNo::Section(no))) => Occasion::Bad(*no),
+        OfKind::Numbered(Verdict::No(TableNo::Differs { position, .. })) => {
+            differs_at(*position, asked, table)
+        }
+        OfKind::Numbered(Verdict::No(no)) => match no.fault() {
+            Some(fault) => Occasion::Faulty(table, fault, Columns::Numbered),
+            None => Occasion::Compared(table),
+        },
+        OfKind::ByPath(Compared::Fault(fault)) => Occasion::Faulty(table, *fault, Columns::ByPath),
+        OfKind::ByPath(Compared::Differs(difference)) => {
+            differs_at(difference.position, asked, table)
+        }
+        OfKind::Numbered(Verdict::Yes) | OfKind::ByPath(Compared::Same) => Occasion::Compared(
+            table,
+        ),
     }
 }
 

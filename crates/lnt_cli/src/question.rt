@@ -19,11 +19,11 @@ use lnt_answers::{
     Report, judge_or_refuse, lists_sums, print_addresses, print_files, print_lookups,
     print_path_table, print_stretches, print_sums, print_table,
 };
-use lnt_io::{Files, IoStop, Source, Status, write_whole};
+use lnt_io::{Files, IoStop, Source, Status, print_line};
 use lnt_lines::{Index, JudgedIndex, Options};
 use lnt_notes::{Hints, Seen, hints_of};
 use lnt_records::PathVersion;
-use lnt_table::Scope;
+use lnt_table::{Scope, Verdict};
 use lnt_words::{FileQuestion, Judging, Question};
 use std::alloc::Global;
 use std::cell::Cell;
@@ -304,7 +304,7 @@ fn print_answer<O: Files, W: Write>(
 {
     match question {
         Question::Verify => {
-            write_whole(out, b"yes\n")?;
+            print_line(alloc, &Verdict::Yes, out)?;
             Ok(Status::Done)
         }
         Question::Lookup(positions) => print_lookups(alloc, index, positions, out),

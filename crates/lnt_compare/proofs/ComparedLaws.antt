@@ -1,16 +1,16 @@
 -- Laws of what comparisons of tables of any kind come to.
 use Rattle.lnt_spans.specs.SpanKinds.{answer_held}
-use Rattle.std.proofs.Common.{◌≡◌, ◌∙◌, ℕ, List, Option, None, Some, ap, inl, inr, refl, subst, sym, MatchOption}
+use Rattle.std.proofs.Common.{◌≡◌, ◌∙◌, ℕ, List, Option, ap, inl, inr, refl, subst, sym}
 use Rattle.lnt_spans.specs.declared.position.Position.{Position}
 use Rattle.lnt_spans.specs.AnyStretches.{Stretch, stretch_at}
 use Rattle.lnt_spans.specs.Differences.{IsFirstDifference}
-use Rattle.lnt_spans.specs.Merged.{AreFound, first_of}
+use Rattle.lnt_spans.specs.Merged.{AreFound}
 use Rattle.lnt_spans.specs.Laws.{AnswerAlike}
 use Rattle.lnt_spans.specs.Positions.{IsBelow}
 use Rattle.lnt_spans.proofs.FoundLaws.{found_of_same}
 use Rattle.lnt_spans.proofs.PositionLaws.{order_three}
 use Rattle.lnt_compare.specs.declared.outcome.Compared.TheVariants.{Same, Fault, Differs}
-use Rattle.lnt_compare.specs.Outcomes.{IsOutcomeOf, Outcome, compared_of, whole_of}
+use Rattle.lnt_compare.specs.Outcomes.{IsOutcomeOf, Outcome}
 use Rattle.lnt_compare.specs.declared.outcome.TableRead.TheVariants as outcome
 use Rattle.lnt_compare.specs.Comparisons.{IsComparisonOf, IsTableWhere, TableKind}
 use Rattle.lnt_compare.specs.Laws.{OneComparison}
@@ -67,19 +67,6 @@ outcome_of_alike kind bytes f g (outcome.Table found) same h =
     where_implied kind f g bytes (λ by_section by_table. AreFound kind.stretch by_section by_table found)
     (λ by_section by_table. AreFound kind.stretch by_section by_table found)
     (λ version by_table is. found_of_same kind.stretch by_table (f version) (g version) found (same version) is) h
-
--- ---- an outcome at all positions
-
-pub compared_whole : {V X Y D : Type 0} (kind : TableKind V X Y D) (bytes : List ℕ) (section : V → Position → Option Y)
-    (told : Outcome D) → IsOutcomeOf kind section bytes told → IsComparisonOf kind section bytes (whole_of told)
-compared_whole kind bytes section (outcome.Fault told) h = h
-compared_whole {V} {X} {Y} {D} kind bytes section (outcome.Table found) h = by_first (first_of found) h.so.first
-  where
-    by_first : (first : Option D) → MatchOption first (AnswerAlike (section h.version) (answer_held kind.spans h.table))
-        (λ difference. IsFirstDifference (section h.version) (answer_held kind.spans h.table) (kind.stretch difference))
-        → IsComparisonOf kind section bytes (compared_of first)
-    by_first None agree = record { version = h.version; table = h.table; is_table = h.is_table; so = agree }
-    by_first (Some difference) least = record { version = h.version; table = h.table; is_table = h.is_table; so = least }
 
 -- ---- one comparison
 

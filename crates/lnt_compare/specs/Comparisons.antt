@@ -9,7 +9,7 @@ use Rattle.lnt_spans.specs.declared.span.Span.{Span}
 use Rattle.lnt_spans.specs.Answers.{in_version}
 use Rattle.lnt_spans.specs.AnyStretches.{Stretch}
 use Rattle.lnt_spans.specs.Differences.{IsFirstDifference, stretch_of}
-use Rattle.lnt_spans.specs.Spans.{span_answer, number_spans}
+use Rattle.lnt_spans.specs.Spans.{number_spans}
 use Rattle.lnt_compare.specs.declared.outcome.Compared.{Compared}
 use Rattle.lnt_compare.specs.declared.outcome.Compared.TheVariants.{Same, Fault, Differs}
 use Rattle.lnt_records.specs.Faults.{IsFaultIn}
@@ -48,10 +48,6 @@ IsComparisonOf kind section bytes (Fault told) = IsFaultIn kind.format bytes tol
 IsComparisonOf kind section bytes (Differs difference) =
     IsTableWhere kind.format (answer_held kind.spans) section bytes
     (λ by_section by_table. IsFirstDifference by_section by_table (kind.stretch difference))
-
--- the same of a table by number and the spans of a section
-abbrev pub IsComparison : List ℕ → List Span → Compared Difference → Type 0
-IsComparison bytes section compared = IsComparisonOf tables_by_number (in_versions (span_answer section)) bytes compared
 
 -- what is told of a comparison, wherever its difference is held
 abbrev pub stretch_told : {D Y : Type 0} → (D → Stretch Y) → Compared D → Compared (Stretch Y)

@@ -1,14 +1,12 @@
 -- What the comparison of a table with a section comes to, by number or by path.
 use Rattle.lnt_spans.specs.SpanKinds.{answer_held}
-use Rattle.std.specs.Prelude.{ℕ, List, Option, Some, None}
+use Rattle.std.specs.Prelude.{ℕ, List, Option}
 use Rattle.lnt_spans.specs.declared.difference.Difference.{Difference}
 use Rattle.lnt_spans.specs.declared.found.Found.{Found}
 use Rattle.lnt_spans.specs.declared.position.Position.{Position}
 use Rattle.lnt_spans.specs.declared.span.Span.{Span}
-use Rattle.lnt_spans.specs.Merged.{AreFound, first_of}
+use Rattle.lnt_spans.specs.Merged.{AreFound}
 use Rattle.lnt_spans.specs.Spans.{span_answer}
-use Rattle.lnt_compare.specs.declared.outcome.Compared.{Compared}
-use Rattle.lnt_compare.specs.declared.outcome.Compared.TheVariants.{Same, Fault, Differs}
 use Rattle.lnt_compare.specs.declared.outcome.TableRead.{TableRead}
 use Rattle.lnt_compare.specs.declared.outcome.TableRead.TheVariants as outcome
 use Rattle.lnt_compare.specs.Comparisons.{IsTableWhere, TableKind, in_versions, tables_by_number}
@@ -32,23 +30,6 @@ IsOutcomeOf kind section bytes (outcome.Table found) =
 -- the same of a table by number and the spans of a section
 abbrev pub IsOutcome : List ℕ → List Span → Outcome Difference → Type 0
 IsOutcome bytes section told = IsOutcomeOf tables_by_number (in_versions (span_answer section)) bytes told
-
--- ---- what is told of it
-
--- no difference, or this one
-abbrev pub compared_of : {D : Type 0} → Option D → Compared D
-compared_of None = Same
-compared_of (Some difference) = Differs difference
-
--- of all positions
-abbrev pub whole_of : {D : Type 0} → Outcome D → Compared D
-whole_of (outcome.Fault told) = Fault told
-whole_of (outcome.Table found) = compared_of (first_of found)
-
--- of those at which the table answers
-abbrev pub part_of : {D : Type 0} → Outcome D → Compared D
-part_of (outcome.Fault told) = Fault told
-part_of (outcome.Table found) = compared_of found.mistake
 
 -- ---- what the comparison of a table by path with a section comes to
 

@@ -3,7 +3,6 @@ ghost use Rattle.std.specs.Prelude.{◌≡◌, ℕ, List, [], ◌∷◌, length,
 ghost use Rattle.lnt_spans.specs.declared.span.Span.{Span};
 ghost use Rattle.lnt_spans.specs.Merged.{end_of_records};
 ghost use Rattle.lnt_spans.specs.Spans.{AreInOrder};
-ghost use Rattle.lnt_compare.specs.Comparisons.{IsComparison};
 ghost use Rattle.lnt_compare.specs.Outcomes.{IsOutcome};
 ghost use Rattle.lnt_compare.specs.Progress.{Comes, HasCompared, HasPushed, IsPast};
 ghost use Rattle.lnt_records.specs.Progress.{IsCutAfter};
@@ -12,35 +11,21 @@ ghost use Rattle.lnt_records.specs.Table.{BeginsWith, Fields};
 
 use crate::line_telling::LineTelling;
 use crate::lines::TakesLines;
-use crate::outcome::{Compared, Outcome, TableRead};
+use crate::outcome::{Outcome, TableRead};
 use csv::ByteRecord;
 use lnt_records::{
     TableFault, TakeFault, TakesRecords, first_span, header_of, span_of, take_records,
 };
-use lnt_spans::{Difference, Merge, Position, Span, SpanSlice, SpanSource, Telling, Version};
+use lnt_spans::{Difference, Merge, Position, SpanSource, Telling, Version};
 use std::alloc::{AllocError, Global};
 
-/// Compares the table in these bytes with the spans of a section.
+/// Compares the table in these bytes with the spans of a section, which come from a source.
 ///
-/// The records are read one by one, as `csv` reads them, and none is kept. `Same`: the bytes are a table that answers at
-/// every position as the spans do, in the fields of the table's version: in version 1 the spans' instruction sets and
-/// discriminators don't count. `Fault`: the bytes are not a table. The first faulty record is reported, even if answers
-/// differed before it. `Differs`: all records are well formed, and the answers differ at this position and at no lower one;
-/// both are reported in the table's version.
+/// The records are read one by one, as `csv` reads them, and none is kept. `Table`: the bytes are a table, and this is what was found
+/// in the fields of the table's version: in version 1 the spans' instruction sets and discriminators don't count. `Fault`: the bytes
+/// are not a table. The first faulty record is reported, even if answers differed before it.
 ///
 /// The caller makes sure that the spans are in order and none is empty. Fails only if memory runs out.
-pub fn compare(
-    alloc: Global,
-    table: &[u8],
-    spans: &[Span],
-) -> Result<Compared<Difference>, AllocError>
-    requires { AreInOrder spans.now }
-    ensures { IfOk result (λ compared. IsComparison table.now spans.now compared) }
-{
-    Ok(compare_records(alloc, table, SpanSlice::of(spans))?.whole())
-}
-
-/// Does the same with the spans of a source, and gives all that was found.
 pub fn compare_records<S: SpanSource + Drop>(
     alloc: Global,
     table: &[u8],

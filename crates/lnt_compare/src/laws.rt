@@ -3,8 +3,8 @@ ghost use Rattle.lnt_compare.specs.Comparisons.{tables_by_number};
 ghost use Rattle.lnt_compare.specs.Laws.{FirstStretchesBegin, OneCanonicalOfPaths, OneComparison, OneLeastPathDifference};
 ghost use Rattle.lnt_compare.specs.Outcomes.{tables_by_path};
 
-/// For given bytes, and what a section answers, a comparison at all positions ([`Outcome::whole`](crate::Outcome::whole)) has only
-/// one possible result: that both answer the same, in the fields of the table's version, one fault, or one position with two answers.
+/// For given bytes, and what a section answers, a comparison at all positions has only one possible result: that both answer the
+/// same, in the fields of the table's version, one fault, or one position with two answers.
 /// Paths count by their bytes, not by where they are held.
 pub fn one_comparison()
     ensures by_number { OneComparison tables_by_number }

@@ -20,7 +20,7 @@ mod window;
 mod writing;
 
 pub use canonical::write_canonical;
-pub use comparison::{compare, compare_records};
+pub use comparison::compare_records;
 pub use differing::{Differing, differ_lines, differ_records};
 pub use outcome::{Compared, Outcome, TableRead};
 pub use path_tables::{

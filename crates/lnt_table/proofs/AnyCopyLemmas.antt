@@ -19,57 +19,43 @@ use Rattle.lnt_records.specs.Table.{BeginsWith, by_number, column_names, IsTable
 use Rattle.lnt_records.proofs.BeginningLaws.{one_beginning, table_begins}
 use Rattle.lnt_records.proofs.NumberLaws.{numbered}
 use Rattle.lnt_compare.specs.declared.path_tables.answer.DifferenceByPath.{DifferenceByPath}
-use Rattle.lnt_compare.specs.Comparisons.{in_versions, IsTableWhere}
+use Rattle.lnt_compare.specs.Comparisons.{in_versions, IsTableWhere, TableKind, tables_by_number}
+use Rattle.lnt_compare.specs.Outcomes.{tables_by_path}
 use Rattle.lnt_compare.specs.PathStretches.{stretch_of as path_stretch_of}
 use Rattle.lnt_records.specs.declared.fault.TableFault.TheVariants as fault
-use Rattle.lnt_compare.specs.declared.outcome.TableRead.{TableRead}
-use Rattle.lnt_compare.specs.declared.outcome.TableRead.TheVariants.{Fault, Table}
-use Rattle.lnt_lines.specs.declared.no.No.{No as SectionNo}
 use Rattle.lnt_lines.specs.declared.options.Options.{Options}
 use Rattle.lnt_lines.specs.Good.{selected}
 use Rattle.lnt_lines.specs.Indexed.{Indexed, IsIndexOf}
 use Rattle.lnt_lines.specs.Judging.{IsIndexOfSection, IsIndexWithCopies}
-use Rattle.lnt_table.specs.declared.asked.Asked.{Asked}
-use Rattle.lnt_table.specs.declared.asked.Asked.TheVariants.{Right, Wrong}
+use Rattle.lnt_table.specs.declared.judged.Judged.{Judged}
+use Rattle.lnt_table.specs.declared.judged.Judged.TheVariants.{Fault, Right, Wrong}
 use Rattle.lnt_table.specs.declared.kinds.OfKind.TheVariants.{ByPath, Numbered}
-use Rattle.lnt_table.specs.declared.verdict.TableNo.TheVariants as no
-use Rattle.lnt_table.specs.declared.verdict.Verdict.TheVariants.{No}
 use Rattle.lnt_table.specs.declared.within.CheckedWithin.{CheckedWithin}
-use Rattle.lnt_table.specs.declared.within.CheckedWithin.TheVariants.{Checked as Told, Covered}
 use Rattle.lnt_table.specs.declared.within.Scope.{Scope}
 use Rattle.lnt_table.specs.declared.within.Scope.TheVariants.{All, Answered}
-use Rattle.lnt_table.specs.AnyCopy.{IsTrueOfAny}
-use Rattle.lnt_table.specs.AnyVersion.{IsOfScope, IsTrueOfSectionWithin}
+use Rattle.lnt_table.specs.AnyCopy.{IsTableAmong, IsTrueOfAny}
 use Rattle.lnt_table.specs.Asked.{IsAsked, OfLive}
-use Rattle.lnt_table.specs.AskedTables.{AskedOfKind, asked_compared, IsAskedOf, IsReadByNumber, IsReadByPath, told_asked}
+use Rattle.lnt_table.specs.AskedTables.{IsAskedOf, IsReadByNumber, IsReadByPath, IsReadOf}
 use Rattle.lnt_table.specs.Headline.{indexed_path, path_at, told_path}
+use Rattle.lnt_table.specs.Judged.{JudgedOfKind, told_in}
 use Rattle.lnt_table.proofs.AskedLemmas.{asked_told}
-use Rattle.lnt_table.proofs.CheckLemmas.{none_of_section, section_told}
+use Rattle.lnt_table.proofs.JudgedLemmas.{of_section}
 use Rattle.lnt_table.proofs.UnitPathLemmas.{same_answer}
 
--- the paths of the index are those of the section
-own_read : (line general : List ℕ) (options : Options) (section table : List ℕ) (index : Indexed) (scope : Scope)
-    (told : AskedOfKind) → (i : IsIndexOfSection line general options section index)
-    → IsAskedOf index (selected options i.units) scope table told
-    → IsAskedOf (record index { line = line; general = general }) (selected options i.units) scope table told
-own_read line general options section table index scope told i h =
-    subst (λ (l : List ℕ). IsAskedOf (record index { line = l; general = general }) (selected options i.units) scope table told) i.line_is
-    (subst (λ (g : List ℕ). IsAskedOf (record index { general = g }) (selected options i.units) scope table told) i.general_is h)
-
-told_of : (scope : Scope) (line general : List ℕ) (options : Options) (section table : List ℕ) (index : Indexed) (told : AskedOfKind)
+told_of : (scope : Scope) (line general : List ℕ) (options : Options) (section table : List ℕ) (index : Indexed) (told : JudgedOfKind)
     → (i : IsIndexOfSection line general options section index)
     → IsAskedOf (record index { line = line; general = general }) (selected options i.units) scope table told
-    → IsTrueOfAny scope line general options section table (told_asked scope told)
+    → IsTrueOfAny scope line general options section table (told_in scope told)
 told_of scope line general options section table index (Numbered (Fault fault.Header)) i h = absurd (h.1 refl)
-told_of All line general options section table index (Numbered (Fault (fault.Fields k))) i h =
+told_of scope line general options section table index (Numbered (Fault (fault.Fields k))) i h =
     (record { units = i.units; good = i.good; so = h.0 }, λ e. cc e)
-told_of All line general options section table index (Numbered (Fault (fault.Number k n))) i h =
+told_of scope line general options section table index (Numbered (Fault (fault.Number k n))) i h =
     (record { units = i.units; good = i.good; so = h.0 }, λ e. cc e)
-told_of All line general options section table index (Numbered (Fault (fault.Order k))) i h =
+told_of scope line general options section table index (Numbered (Fault (fault.Order k))) i h =
     (record { units = i.units; good = i.good; so = h.0 }, λ e. cc e)
-told_of All line general options section table index (Numbered (Table (Wrong wrong))) i h =
+told_of scope line general options section table index (Numbered (Wrong wrong)) i h =
     record { units = i.units; good = i.good; so = h.0 }
-told_of All line general options section table index (Numbered (Table (Right coverage))) i h = (
+told_of All line general options section table index (Numbered (Right coverage)) i h = (
   refl,
   record {
     units = i.units;
@@ -77,21 +63,13 @@ told_of All line general options section table index (Numbered (Table (Right cov
     so = record { version = h.0.version; table = h.0.table; is_table = h.0.is_table; so = h.0.so.0 };
   },
 )
-told_of Answered line general options section table index (Numbered (Fault (fault.Fields k))) i h =
-    (record { units = i.units; good = i.good; so = h.0 }, λ e. cc e)
-told_of Answered line general options section table index (Numbered (Fault (fault.Number k n))) i h =
-    (record { units = i.units; good = i.good; so = h.0 }, λ e. cc e)
-told_of Answered line general options section table index (Numbered (Fault (fault.Order k))) i h =
-    (record { units = i.units; good = i.good; so = h.0 }, λ e. cc e)
-told_of Answered line general options section table index (Numbered (Table (Wrong wrong))) i h =
-    record { units = i.units; good = i.good; so = h.0 }
-told_of Answered line general options section table index (Numbered (Table (Right coverage))) i h =
+told_of Answered line general options section table index (Numbered (Right coverage)) i h =
     (refl, inl (record { units = i.units; good = i.good; so = h.0 }))
-told_of All line general options section table index (ByPath (Fault told)) i h =
+told_of scope line general options section table index (ByPath (Fault told)) i h =
     (h.0, record { units = i.units; good = i.good; so = h.1 })
-told_of All line general options section table index (ByPath (Table (Wrong wrong))) i h =
+told_of scope line general options section table index (ByPath (Wrong wrong)) i h =
     (h.0, record { units = i.units; good = i.good; so = h.1 })
-told_of All line general options section table index (ByPath (Table (Right coverage))) i h = (
+told_of All line general options section table index (ByPath (Right coverage)) i h = (
   refl,
   h.0,
   record {
@@ -100,71 +78,23 @@ told_of All line general options section table index (ByPath (Table (Right cover
     so = record { version = h.1.version; table = h.1.table; is_table = h.1.is_table; so = h.1.so.0 };
   },
 )
-told_of Answered line general options section table index (ByPath (Fault told)) i h =
-    (h.0, record { units = i.units; good = i.good; so = h.1 })
-told_of Answered line general options section table index (ByPath (Table (Wrong wrong))) i h =
-    (h.0, record { units = i.units; good = i.good; so = h.1 })
-told_of Answered line general options section table index (ByPath (Table (Right coverage))) i h =
+told_of Answered line general options section table index (ByPath (Right coverage)) i h =
     (refl, inr (h.0, record { units = i.units; good = i.good; so = h.1 }))
 
 pub any_told : (scope : Scope) (line general : List ℕ) (options : Options) (section table : Option (List ℕ)) (index : Indexed)
-    (told : AskedOfKind) (checked : CheckedWithin) → IfSome section (λ bytes. IsIndexWithCopies line general options bytes index)
-    → OfLive index (λ selection. IfSome table (λ text. IsAskedOf index selection scope text told)) → checked ≡ told_asked scope told
+    (told : JudgedOfKind) (checked : CheckedWithin) → IfSome section (λ bytes. IsIndexWithCopies line general options bytes index)
+    → OfLive index (λ selection. IfSome table (λ text. IsAskedOf index selection scope text told)) → checked ≡ told_in scope told
     → IfSome section (λ bytes. IfSome table (λ text. IsTrueOfAny scope line general options bytes text checked))
 any_told scope line general options section table index told checked i h is_told =
     IfSome_then section i (λ bytes is. IfSome_then table (h (selected options is.indexed.units) is.indexed.index_is is.live)
     (λ text asked. rw is_told
     (told_of scope line general options bytes text index told is.indexed
-    (own_read line general options bytes text index scope told is.indexed asked))))
-
--- ---- what an answer says of the section
-
-any_section : (line general : List ℕ) (options : Options) (section : List ℕ) (index : Indexed) (scope : Scope) (told : AskedOfKind)
-    → IsIndexOfSection line general options section index
-    → IsTrueOfSectionWithin line general options section (told_asked scope told)
-any_section line general options section index All (Numbered read) i =
-    section_told line general options section index (asked_compared read) i
-any_section line general options section index All (ByPath read) i = (i.units, i.good)
-any_section line general options section index Answered (Numbered (Fault told)) i =
-    section_told line general options section index (asked_compared (Fault told)) i
-any_section line general options section index Answered (Numbered (Table (Wrong wrong))) i =
-    section_told line general options section index (asked_compared (Table (Wrong wrong))) i
-any_section line general options section index Answered (Numbered (Table (Right coverage))) i = (i.units, i.good)
-any_section line general options section index Answered (ByPath (Fault told)) i = (i.units, i.good)
-any_section line general options section index Answered (ByPath (Table (Wrong wrong))) i = (i.units, i.good)
-any_section line general options section index Answered (ByPath (Table (Right coverage))) i = (i.units, i.good)
-
-pub section_any : (line general : List ℕ) (options : Options) (section : Option (List ℕ)) (index : Indexed)
-    (scope : Scope) (told : AskedOfKind) → IfSome section (λ bytes. IsIndexWithCopies line general options bytes index)
-    → IfSome section (λ bytes. IsTrueOfSectionWithin line general options bytes (told_asked scope told))
-section_any line general options section index scope told i =
-    IfSome_then section i (λ bytes is. any_section line general options bytes index scope told is.indexed)
-
-pub not_any : (scope : Scope) (told : AskedOfKind) (reason : SectionNo)
-    → told_asked scope told ≡ Told (Numbered (No (no.Section reason))) → ⊥
-not_any All (Numbered read) reason = λ e. none_of_section (asked_compared read) reason cc
-not_any All (ByPath read) reason = λ e. cc e
-not_any Answered (Numbered (Fault told)) reason = λ e. none_of_section (asked_compared (Fault told)) reason cc
-not_any Answered (Numbered (Table (Wrong wrong))) reason = λ e. none_of_section (asked_compared (Table (Wrong wrong))) reason cc
-not_any Answered (Numbered (Table (Right coverage))) reason = λ e. cc e
-not_any Answered (ByPath (Fault told)) reason = λ e. cc e
-not_any Answered (ByPath (Table (Wrong wrong))) reason = λ e. cc e
-not_any Answered (ByPath (Table (Right coverage))) reason = λ e. cc e
-
--- only in the scope of answered positions it is said how much is answered
-pub any_scope : (scope : Scope) (told : AskedOfKind) → IsOfScope (told_asked scope told) scope
-any_scope All (Numbered read) = tt
-any_scope All (ByPath read) = tt
-any_scope Answered (Numbered (Fault told)) = tt
-any_scope Answered (Numbered (Table (Wrong wrong))) = tt
-any_scope Answered (Numbered (Table (Right coverage))) = tt
-any_scope Answered (ByPath (Fault told)) = tt
-any_scope Answered (ByPath (Table (Wrong wrong))) = tt
-any_scope Answered (ByPath (Table (Right coverage))) = tt
+    (of_section line general options bytes index (λ own. IsAskedOf own (selected options is.indexed.units) scope text told) is.indexed
+    asked))))
 
 -- ---- a table of one kind
 
-abbrev faulty : TableFault → TableRead (Asked Difference)
+abbrev faulty : TableFault → Judged Difference
 faulty told = Fault told
 
 pub not_header : (text : List ℕ) (version : Version) (told : TableFault) → BeginsWith text (column_names version ∷ []) → IsFault text told
@@ -174,43 +104,53 @@ not_header text version (fault.Fields k) begins h = λ e. cc e
 not_header text version (fault.Number k n) begins h = λ e. cc e
 not_header text version (fault.Order k) begins h = λ e. cc e
 
-pub numbers_read : (selection : Selection) (scope : Scope) (text : List ℕ) (version : Version) (asked : Asked Difference)
+-- what asking for the answers of a table comes to is no fault of it
+read_so : {V X Y D : Type 0} (kind : TableKind V X Y D) (scope : Scope) (said : V → Position → Option Y → Type 0)
+    (section : V → Position → Option Y) (bytes : List ℕ) (asked : Judged D)
+    → IsTableAmong kind said section bytes (λ said by_section by_table. IsAsked scope kind.stretch said by_section by_table asked)
+    → IsReadOf kind scope said section bytes asked × (asked ≢ Fault fault.Header)
+read_so kind scope said section bytes (Fault told) h = absurd h.so
+read_so kind scope said section bytes (Wrong wrong) h = (h, λ e. cc e)
+read_so kind scope said section bytes (Right coverage) h = (h, λ e. cc e)
+
+pub numbers_read : (selection : Selection) (scope : Scope) (text : List ℕ) (version : Version) (asked : Judged Difference)
     (HasFound : (Position → Option Answer) → (Position → Option Answer) → Type 0) → BeginsWith text (column_names version ∷ [])
     → IsTableWhere by_number span_answer (in_versions (line_answer selection)) text HasFound
     → ((f g : Position → Option Answer) → ((p : Position) → f p ≡ option_map (in_version version) (line_answer selection p))
     → HasFound f g → IsAsked scope stretch_of (IsAnyAnswer (in_version version) selection) f g asked)
-    → IsReadByNumber selection scope text (Table asked)
+    → IsReadByNumber selection scope text asked
 numbers_read selection scope text version asked HasFound begins h asks =
     let same : h.version ≡ version = numbered.one_version h.version version
     (one_beginning text (column_names h.version) (column_names version)
-    (table_begins by_number text h.version h.table h.is_table) begins) in (
-      record {
-        version = version;
-        table = h.table;
-        is_table = subst (λ (v : Version). IsTableOfIn by_number v text h.table) same h.is_table;
-        so = asks (in_versions (line_answer selection) version) (span_answer h.table) (λ p. refl)
-            (subst (λ (v : Version). HasFound (in_versions (line_answer selection) v) (span_answer h.table)) same h.so);
-      },
-      λ e. cc e,
-    )
+    (table_begins by_number text h.version h.table h.is_table) begins) in
+    read_so tables_by_number scope (λ version. IsAnyAnswer (in_version version) selection) (in_versions (line_answer selection)) text asked
+    (record {
+      version = version;
+      table = h.table;
+      is_table = subst (λ (v : Version). IsTableOfIn by_number v text h.table) same h.is_table;
+      so = asks (in_versions (line_answer selection) version) (span_answer h.table) (λ p. refl)
+          (subst (λ (v : Version). HasFound (in_versions (line_answer selection) v) (span_answer h.table)) same h.so);
+    })
 
 pub paths_read : (index : Indexed) (selection : Selection) (scope : Scope) (text : List ℕ) (version : PathVersion)
-    (spans : List PathSpan) (asked : Asked DifferenceByPath) → IsIndexOf selection index → IsTableOfIn by_path version text spans
+    (spans : List PathSpan) (asked : Judged DifferenceByPath) → IsIndexOf selection index → IsTableOfIn by_path version text spans
     → IsAsked scope path_stretch_of (IsAnyAnswer (path_answer version (indexed_path index)) selection)
     (told_path version index selection) (path_span_answer spans) asked
-    → IsReadByPath index selection scope text (Table asked)
-paths_read index selection scope text version spans asked is held asks = record {
-  version = version;
-  table = spans;
-  is_table = held;
-  so = asked_told scope path_stretch_of (path_answer version (indexed_path index))
-      (path_answer version (path_at index.line index.general selection.units)) selection (told_path version index selection)
-      (path_span_answer spans) asked
-      (λ answer. same_Some (path_answer version (indexed_path index) answer)
-      (path_answer version (path_at index.line index.general selection.units) answer)
-      (same_answer version index selection is (Some answer)))
-      asks;
-}
+    → IsReadByPath index selection scope text asked
+paths_read index selection scope text version spans asked is held asks = (read_so tables_by_path scope
+    (λ version. IsAnyAnswer (path_answer version (path_at index.line index.general selection.units)) selection)
+    (λ version. told_path version index selection) text asked (record {
+      version = version;
+      table = spans;
+      is_table = held;
+      so = asked_told scope path_stretch_of (path_answer version (indexed_path index))
+          (path_answer version (path_at index.line index.general selection.units)) selection (told_path version index selection)
+          (path_span_answer spans) asked
+          (λ answer. same_Some (path_answer version (indexed_path index) answer)
+          (path_answer version (path_at index.line index.general selection.units) answer)
+          (same_answer version index selection is (Some answer)))
+          asks;
+    })).0
 
 -- the answers of the section, as the index tells them
 pub told_as : (version : PathVersion) (index : Indexed) (selection : Selection) → IsIndexOf selection index → (p : Position)

@@ -14,8 +14,8 @@ use Rattle.lnt_spans.proofs.PositionLaws.{order_three, same_position}
 use Rattle.lnt_sequences.specs.Copies.{IsAnyAnswer}
 use Rattle.lnt_sequences.specs.Sequences.{line_answer, Selection}
 use Rattle.lnt_sequences.proofs.AnyLemmas.{any_answers, any_as_kept}
-use Rattle.lnt_table.specs.declared.asked.Asked.{Asked}
-use Rattle.lnt_table.specs.declared.asked.Asked.TheVariants.{Right, Wrong}
+use Rattle.lnt_table.specs.declared.judged.Judged.{Judged}
+use Rattle.lnt_table.specs.declared.judged.Judged.TheVariants.{Fault, Right, Wrong}
 use Rattle.lnt_table.specs.declared.copies.Copies.{Copies}
 use Rattle.lnt_table.specs.declared.within.Scope.{Scope}
 use Rattle.lnt_table.specs.declared.within.Scope.TheVariants.{All, Answered}
@@ -536,7 +536,7 @@ kept_said tell selection f same p = subst (IsAnyAnswer tell selection p) (sym (s
 
 -- Whatever the answers are told by, if it tells the same.
 pub asked_told : {X D : Type 0} (scope : Scope) (stretch : D → Stretch X) (tell tell' : Answer → X) (selection : Selection)
-    (f g : Position → Option X) (asked : Asked D) → ((answer : Answer) → tell answer ≡ tell' answer)
+    (f g : Position → Option X) (asked : Judged D) → ((answer : Answer) → tell answer ≡ tell' answer)
     → IsAsked scope stretch (IsAnyAnswer tell selection) f g asked → IsAsked scope stretch (IsAnyAnswer tell' selection) f g asked
 asked_told {X} {D} scope stretch tell tell' selection f g asked same = by_asked asked
   where
@@ -558,8 +558,9 @@ asked_told {X} {D} scope stretch tell tell' selection f g asked same = by_asked 
     right_back Answered p (inl none) = inl none
     right_back Answered p (inr h) = inr (said_back p (g p) h)
 
-    by_asked : (a : Asked D) → IsAsked scope stretch (IsAnyAnswer tell selection) f g a
+    by_asked : (a : Judged D) → IsAsked scope stretch (IsAnyAnswer tell selection) f g a
         → IsAsked scope stretch (IsAnyAnswer tell' selection) f g a
+    by_asked (Fault told) h = h
     by_asked (Wrong wrong) h = record {
       section = h.section;
       table = h.table;

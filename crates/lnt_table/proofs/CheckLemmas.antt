@@ -16,7 +16,7 @@ use Rattle.lnt_lines.specs.Judging.{IsIndexOfSection}
 use Rattle.lnt_lines.specs.Indexed.{Indexed}
 use Rattle.lnt_table.specs.declared.verdict.TableNo.TheVariants as no
 use Rattle.lnt_table.specs.declared.verdict.Verdict.TheVariants.{No}
-use Rattle.lnt_table.specs.Headline.{IsTrueByNumber, IsTrueOfSection, IsTrueVerdict, told_answer}
+use Rattle.lnt_table.specs.Headline.{IsTrueOfSection, told_answer}
 use Rattle.lnt_table.specs.Verdicts.{verdict_of}
 
 -- Spans that answer as the rows do also answer so as each version tells answers.
@@ -25,16 +25,6 @@ pub same_in_version : (version : Version) (selection : Selection) (spans : List 
 same_in_version version selection spans same p = ap (option_map (in_version version)) (same p)
 
 -- ---- what a comparison says
-
--- of the section and the table
-pub compared_told : (line general : List ℕ) (options : Options) (section table : List ℕ) (compared : Compared Difference)
-    → IsTrueByNumber line general options section table compared → IsTrueVerdict line general options section table (verdict_of compared)
-compared_told line general options section table Same h = h
-compared_told line general options section table (Fault fault.Header) h = h
-compared_told line general options section table (Fault (fault.Fields k)) h = h
-compared_told line general options section table (Fault (fault.Number k i)) h = h
-compared_told line general options section table (Fault (fault.Order k)) h = h
-compared_told line general options section table (Differs difference) h = h
 
 -- of the section, whatever the table is
 pub section_told : (line general : List ℕ) (options : Options) (section : List ℕ) (index : Indexed) (compared : Compared Difference)

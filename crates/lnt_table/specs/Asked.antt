@@ -14,8 +14,8 @@ use Rattle.lnt_lines.specs.Indexed.{IsIndexOf, Indexed}
 use Rattle.lnt_table.specs.declared.copies.Copies.{Copies}
 use Rattle.lnt_table.specs.declared.within.Scope.{Scope}
 use Rattle.lnt_table.specs.declared.within.Scope.TheVariants.{All, Answered}
-use Rattle.lnt_table.specs.declared.asked.Asked.{Asked}
-use Rattle.lnt_table.specs.declared.asked.Asked.TheVariants.{Right, Wrong}
+use Rattle.lnt_table.specs.declared.judged.Judged.{Judged}
+use Rattle.lnt_table.specs.declared.judged.Judged.TheVariants.{Fault, Right, Wrong}
 use Rattle.lnt_table.specs.declared.said.SequenceSpans.{SequenceSpans}
 use Rattle.lnt_table.specs.declared.wrong.Piece.{Piece}
 use Rattle.lnt_table.specs.AnyCopy.{IsFirstWrong, IsRightIn}
@@ -119,7 +119,8 @@ FindsTurn is_said said WereReady AreNowReady told low high found = WereReady tol
 
 -- The table is wrong at this position first; or it is right at each position of the scope, and answers so much.
 abbrev pub IsAsked : {X D : Type 0} → Scope → (D → Stretch X) → (Position → Option X → Type 0) → (Position → Option X)
-    → (Position → Option X) → Asked D → Type 0
+    → (Position → Option X) → Judged D → Type 0
+IsAsked scope stretch said by_section by_table (Fault told) = ⊥
 IsAsked scope stretch said by_section by_table (Wrong wrong) = IsFirstWrong scope said by_section by_table (stretch wrong)
 IsAsked scope stretch said by_section by_table (Right coverage) = ((p : Position) → IsRightIn scope said by_table p)
     × AreCounts by_table by_section coverage.answered coverage.all

@@ -10,19 +10,18 @@ ghost use Rattle.lnt_compare.specs.PathStretches.{stretch_of as path_stretch_of}
 ghost use Rattle.lnt_sequences.specs.Copies.{IsAnyAnswer};
 ghost use Rattle.lnt_table.specs.AnyCopy.{IsTrueOfAny, skipping};
 ghost use Rattle.lnt_table.specs.AnyVersion.{IsOfScope, IsTrueOfSectionWithin};
-ghost use Rattle.lnt_table.specs.AskedTables.{IsAskedOf, IsReadByNumber, IsReadByPath, asked_compared, asked_coverage, told_asked};
+ghost use Rattle.lnt_table.specs.AskedTables.{IsAskedOf, IsReadByNumber, IsReadByPath};
 ghost use Rattle.lnt_table.specs.Asked.{IsAsked, OfLive};
 ghost use Rattle.lnt_table.specs.Headline.{indexed_path, told_path};
 
 use crate::any_differing::differences_by_path;
-use crate::asked::{Asked, ask};
+use crate::asked::ask;
+use crate::judged::{Judged, JudgedOfKind};
 use crate::kept::{ByNumber, ByPath};
 use crate::kinds::OfKind;
-use crate::verdict::{TableNo, Verdict, verdict_of};
-use crate::within::{CheckedWithin, Coverage, Scope};
-use lnt_compare::{
-    Compared, DifferenceByPath, HeldSpan, TableRead, Window, differ_records, hold_table,
-};
+use crate::verdict::{TableNo, Verdict};
+use crate::within::{CheckedWithin, Scope};
+use lnt_compare::{DifferenceByPath, HeldSpan, TableRead, Window, differ_records, hold_table};
 use lnt_io::{Source, Stop};
 use lnt_lines::{Index, JudgedIndex, Options, index_with_copies};
 use lnt_records::{PathVersion, header_of};
@@ -76,47 +75,7 @@ pub fn check_any_copy<R: Source, T: Source>(
         }
     };
     let asked = ask_table(alloc, table, &index, scope)?;
-    Ok(told(asked, scope))
-}
-
-// What asking the live sequences for the answers of a table of any version comes to, or its first fault.
-type AskedOfKind = OfKind<TableRead<Asked<Difference>>, TableRead<Asked<DifferenceByPath>>>;
-
-// The answer in this scope.
-fn told(asked: AskedOfKind, scope: Scope) -> CheckedWithin
-    ensures { result ≡ told_asked scope asked }
-{
-    match asked {
-        OfKind::Numbered(read) => match coverage_of(&read, scope) {
-            Some(coverage) => CheckedWithin::Covered(coverage),
-            None => CheckedWithin::Checked(OfKind::Numbered(verdict_of(compared(read)))),
-        },
-        OfKind::ByPath(read) => match coverage_of(&read, scope) {
-            Some(coverage) => CheckedWithin::Covered(coverage),
-            None => CheckedWithin::Checked(OfKind::ByPath(compared(read))),
-        },
-    }
-}
-
-// How much the table answers, if it is right, and that is asked.
-fn coverage_of<D: Drop>(read: &TableRead<Asked<D>>, scope: Scope) -> Option<Coverage>
-    ensures { result ≡ asked_coverage scope read.now }
-{
-    match (read, scope) {
-        (TableRead::Table(Asked::Right(coverage)), Scope::Answered) => Some(*coverage),
-        _ => None,
-    }
-}
-
-// No difference, the first one, or the first fault.
-fn compared<D>(read: TableRead<Asked<D>>) -> Compared<D>
-    ensures { result ≡ asked_compared read }
-{
-    match read {
-        TableRead::Fault(fault) => Compared::Fault(fault),
-        TableRead::Table(Asked::Wrong(difference)) => Compared::Differs(difference),
-        TableRead::Table(Asked::Right(_)) => Compared::Same,
-    }
+    Ok(asked.told(scope))
 }
 
 // Asks the live sequences of the index for the answers of a table, by number or by path according to its header.
@@ -125,7 +84,7 @@ fn ask_table<T: Source>(
     table: &mut T,
     index: &Index<'_>,
     scope: Scope,
-) -> Result<AskedOfKind, Stop>
+) -> Result<JudgedOfKind, Stop>
     requires { T.failures table.old < 2 ^ 64 - 1 }
     ensures ok { IfOk result (λ asked. OfLive index.now (λ selection. IfSome (T.remaining table.old) (λ text.
         IsAskedOf index.now selection scope text asked))) }
@@ -144,7 +103,7 @@ fn ask_text(
     text: &[u8],
     index: &Index<'_>,
     scope: Scope,
-) -> Result<AskedOfKind, AllocError>
+) -> Result<JudgedOfKind, AllocError>
     ensures { IfOk result (λ asked. OfLive index.now (λ selection. IsAskedOf index.now selection scope text.now asked)) }
 {
     if let Some(version) = header_of::<Version>(alloc, text)? {
@@ -162,19 +121,19 @@ fn ask_numbers(
     index: &Index<'_>,
     version: Version,
     scope: Scope,
-) -> Result<TableRead<Asked<Difference>>, AllocError>
+) -> Result<Judged<Difference>, AllocError>
     requires { BeginsWith text.now (column_names version ∷ []) }
     ensures { IfOk result (λ read. OfLive index.now (λ selection. IsReadByNumber selection scope text.now read)) }
 {
     match differ_records(alloc, text, index.spans())? {
-        TableRead::Fault(fault) => Ok(TableRead::Fault(fault)),
+        TableRead::Fault(fault) => Ok(Judged::Fault(fault)),
         TableRead::Table(differences) => {
             let kept = ByNumber {
                 version,
                 differences,
             };
             let asked = ask(alloc, kept, index, scope)?;
-            Ok(TableRead::Table(asked))
+            Ok(asked)
         }
     }
 }
@@ -185,16 +144,16 @@ fn ask_paths(
     text: &[u8],
     index: &Index<'_>,
     scope: Scope,
-) -> Result<TableRead<Asked<DifferenceByPath>>, AllocError>
+) -> Result<Judged<DifferenceByPath>, AllocError>
     ensures { IfOk result (λ read. OfLive index.now (λ selection. IsReadByPath index.now selection scope text.now read)) }
 {
     match hold_table(alloc, text)? {
-        TableRead::Fault(fault) => Ok(TableRead::Fault(fault)),
+        TableRead::Fault(fault) => Ok(Judged::Fault(fault)),
         TableRead::Table((version, spans)) => {
             let read = ask_held(alloc, &spans, index, version, scope);
             drop(spans);
             let asked = read?;
-            Ok(TableRead::Table(asked))
+            Ok(asked)
         }
     }
 }
@@ -206,7 +165,7 @@ fn ask_held(
     index: &Index<'_>,
     version: PathVersion,
     scope: Scope,
-) -> Result<Asked<DifferenceByPath>, AllocError>
+) -> Result<Judged<DifferenceByPath>, AllocError>
     requires { StandInOrder (map held_span spans.now) }
     ensures { IfOk result (λ asked. OfLive index.now (λ selection. IsAsked scope path_stretch_of
         (IsAnyAnswer (path_answer version (indexed_path index.now)) selection) (told_path version index.now selection)

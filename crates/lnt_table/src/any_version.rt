@@ -31,7 +31,7 @@ impl fmt::Display for OfKind<Verdict, Compared<DifferenceByPath>> {
     fn fmt<W: fmt::Write>(&self, f: &mut fmt::Formatter<W>) -> fmt::Result {
         match self {
             OfKind::Numbered(verdict) => verdict.fmt(f),
-            OfKind::ByPath(Compared::Same) => f.write_str("yes"),
+            OfKind::ByPath(Compared::Same) => Verdict::Yes.fmt(f),
             OfKind::ByPath(Compared::Fault(fault)) => TableNo::from(*fault).fmt(f),
             OfKind::ByPath(Compared::Differs(difference)) => {
                 PathDifferenceLine(difference, None).fmt(f)

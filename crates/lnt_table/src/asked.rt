@@ -5,20 +5,12 @@ ghost use Rattle.lnt_sequences.specs.Copies.{IsAnyAnswer};
 ghost use Rattle.lnt_sequences.specs.Sequences.{line_answer};
 ghost use Rattle.lnt_table.specs.Asked.{IsAsked, OfLive};
 
+use crate::judged::Judged;
 use crate::kept::KeptStretches;
-use crate::within::{Coverage, Scope};
+use crate::within::Scope;
 use crate::wrong::WrongStretches;
 use lnt_lines::Index;
 use std::alloc::{AllocError, Global};
-
-// What asking the live sequences for the answers of a table comes to.
-#[derive(Drop)]
-pub(crate) enum Asked<D> {
-    // The least position of the scope at which the table isn't right.
-    Wrong(D),
-    // The table is right at each position of the scope, and answers this much of the section.
-    Right(Coverage),
-}
 
 // Asks the live sequences at each stretch at which a table and the section differ.
 pub(crate) fn ask<D: Drop, K: KeptStretches<D> + Drop>(
@@ -26,7 +18,7 @@ pub(crate) fn ask<D: Drop, K: KeptStretches<D> + Drop>(
     kept: K,
     index: &Index<'_>,
     scope: Scope,
-) -> Result<Asked<D>, AllocError>
+) -> Result<Judged<D>, AllocError>
     requires { (by_section : spec_position.Position → Option K.Told) × (by_table : spec_position.Position → Option K.Told)
         × K.has_given kept by_section by_table [] }
     ensures { IfOk result (λ asked. OfLive index.now (λ selection. (by_section by_table : spec_position.Position → Option K.Told)
@@ -36,7 +28,7 @@ pub(crate) fn ask<D: Drop, K: KeptStretches<D> + Drop>(
 {
     let mut wrong = WrongStretches::of(alloc, kept, index, scope);
     match wrong.next_wrong(alloc)? {
-        Some(ended) => Ok(Asked::Wrong(ended.difference)),
-        None => Ok(Asked::Right(wrong.coverage())),
+        Some(ended) => Ok(Judged::Wrong(ended.difference)),
+        None => Ok(Judged::Right(wrong.coverage())),
     }
 }

@@ -2,10 +2,9 @@
 ghost use Rattle.std.specs.Prelude.{◌≡◌, ◌≢◌, IfNone, IfSome, Some};
 ghost use Rattle.lnt_records.specs.declared.fault.TableFault.{TableFault as TableFaultSpec};
 ghost use Rattle.lnt_table.specs.FaultTexts.{table_no_text, verdict_text};
-ghost use Rattle.lnt_table.specs.Verdicts.{no_of_fault, verdict_of};
+ghost use Rattle.lnt_table.specs.Verdicts.{no_of_fault};
 
 use crate::difference_lines::DifferenceLine;
-use lnt_compare::Compared;
 use lnt_lines::No;
 use lnt_records::TableFault;
 use lnt_spans::{Answer, Difference, Position};
@@ -117,20 +116,5 @@ impl TableNo {
             TableNo::TableOrder(record) => Some(TableFault::Order(record)),
             TableNo::Section(_) | TableNo::Differs { .. } => None,
         }
-    }
-}
-
-// The verdict that follows from comparing a table with a good section.
-pub(crate) fn verdict_of(compared: Compared<Difference>) -> Verdict
-    ensures { result ≡ verdict_of compared }
-{
-    match compared {
-        Compared::Same => Verdict::Yes,
-        Compared::Fault(fault) => Verdict::No(TableNo::from(fault)),
-        Compared::Differs(difference) => Verdict::No(TableNo::Differs {
-            position: difference.position,
-            by_table: difference.by_table,
-            by_section: difference.by_section,
-        }),
     }
 }

@@ -3,12 +3,12 @@ ghost use Rattle.std.specs.Prelude.{◌≡◌, ◌-◌, ◌^◌, ◌<◌, IfOk, 
 ghost use Rattle.lnt_lines.specs.declared.no.No.{No as SectionNo};
 ghost use Rattle.lnt_io.specs.declared.stop.Stop.TheVariants.{Read, TooLong};
 ghost use Rattle.lnt_table.specs.FaultTexts.{within_text};
-ghost use Rattle.lnt_table.specs.Judged.{within_scope};
+ghost use Rattle.lnt_table.specs.Judged.{told_right};
 ghost use Rattle.lnt_table.specs.AnyVersion.{IsOfScope, IsTrueOfSectionWithin, IsTrueWithin, coverage_but, scope_in};
 ghost use Rattle.lnt_io.specs.Stopping.{IsEitherTooLongOn, CountsFailures};
 
 use crate::any_version::Checked;
-use crate::judged::{Judged, judge_index};
+use crate::judged::judge_index;
 use crate::kinds::OfKind;
 use crate::verdict::{TableNo, Verdict};
 use lnt_io::{Source, Stop};
@@ -35,6 +35,17 @@ impl Scope {
             Scope::Answered
         } else {
             Scope::All
+        }
+    }
+
+    /// The answer of a check if the table is right at all of these positions, and answers this much of the section: `yes`, or how much,
+    /// if not all positions count.
+    pub fn answer_if_right(self, coverage: Coverage, yes: Checked) -> CheckedWithin
+        ensures { result ≡ told_right self coverage yes }
+    {
+        match self {
+            Scope::All => CheckedWithin::Checked(yes),
+            Scope::Answered => CheckedWithin::Covered(coverage),
         }
     }
 }
@@ -79,8 +90,10 @@ impl fmt::Display for CheckedWithin {
             CheckedWithin::Checked(checked) => checked.fmt(f),
             CheckedWithin::Covered(coverage) => write!(
                 f,
-                "yes\nanswers {} of {}",
-                coverage.answered, coverage.all
+                "{}\nanswers {} of {}",
+                Verdict::Yes,
+                coverage.answered,
+                coverage.all
             ),
         }
     }
@@ -123,19 +136,6 @@ pub fn check_within<R: Source, T: Source>(
             return Ok(CheckedWithin::Checked(OfKind::Numbered(verdict)));
         }
     };
-    let judged = judge_index(alloc, table, &index)?;
-    Ok(within(judged, scope))
-}
-
-// The answer in this scope.
-fn within(judged: Judged, scope: Scope) -> CheckedWithin
-    ensures { result ≡ within_scope scope judged }
-{
-    match scope {
-        Scope::All => CheckedWithin::Checked(judged.whole()),
-        Scope::Answered => match judged.coverage() {
-            Some(coverage) => CheckedWithin::Covered(coverage),
-            None => CheckedWithin::Checked(judged.part()),
-        },
-    }
+    let judged = judge_index(alloc, table, &index, scope)?;
+    Ok(judged.told(scope))
 }

@@ -6,15 +6,18 @@ ghost use Rattle.lnt_records.specs.Written.{IsOfVersion};
 
 use crate::samples::{Narrow, TABLE};
 use crate::tables::worked::{narrow, plain_spans, wide};
-use lnt_compare::{Compared, compare};
+use lnt_compare::{TableRead, compare_records};
 use lnt_records::{WriteStop, write_spans};
-use lnt_spans::{Span, Version};
+use lnt_spans::{Span, SpanSlice, Version};
 use std::alloc::Global;
 
 // Whether the table answers as the spans do.
 fn agrees(alloc: Global, table: &[u8]) -> bool {
     let spans = plain_spans(wide(3, 7), wide(4, 0));
-    compare(alloc, table, &spans) == Ok(Compared::Same)
+    match compare_records(alloc, table, SpanSlice::of(&spans)) {
+        Ok(TableRead::Table(found)) => found.first().is_none(),
+        _ => false,
+    }
 }
 
 const QUOTED: &[u8] = b"low,low_op,high,high_op,unit,file,line,column,is_stmt

@@ -20,7 +20,7 @@ returns-clause-text g c =
     subst (λ (coverage : Option Coverage). Appends (g.W.Write.contents c.args.out.now) (g.W.Write.contents c.print_line.new.out)
     (end_text c.args.report coverage)) (sym c.in-Some.is)
     (subst (λ (checked : CheckedWithin). Appends (g.W.Write.contents c.args.out.now) (g.W.Write.contents c.print_line.new.out)
-    (checked_line c.args.report.at_least checked)) c.answer_if_none-checked.ensures c.in_ok-print_line.ensures.line)
+    (checked_line c.args.report.at_least checked)) c.answer_if_right-checked.ensures c.in_ok-print_line.ensures.line)
 
 pub returns-in_err-print_line-clause-prefix : goal.returns-in_err-print_line-clause-prefix
 returns-in_err-print_line-clause-prefix g c =
@@ -28,4 +28,4 @@ returns-in_err-print_line-clause-prefix g c =
     (subst (λ (coverage : Option Coverage). AppendsPrefix (g.W.Write.contents c.args.out.now) (g.W.Write.contents c.print_line.new.out)
     (end_text c.args.report coverage)) (sym c.in-Some.is)
     (subst (λ (checked : CheckedWithin). AppendsPrefix (g.W.Write.contents c.args.out.now) (g.W.Write.contents c.print_line.new.out)
-    (checked_line c.args.report.at_least checked)) c.answer_if_none-checked.ensures c.in_err-print_line.ensures.prefix))
+    (checked_line c.args.report.at_least checked)) c.answer_if_right-checked.ensures c.in_err-print_line.ensures.prefix))

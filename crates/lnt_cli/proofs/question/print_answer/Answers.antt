@@ -1,11 +1,11 @@
 use Rattle.std.proofs.Common.{◌∙◌, rules, sym}
 use Rattle.lnt_cli.proofs.question.print_answer.Goals as goal
 
-pub returns-in_err-write_whole-in-Verify-clause-stopped : goal.returns-in_err-write_whole-in-Verify-clause-stopped
-returns-in_err-write_whole-in-Verify-clause-stopped g c = search rules
+pub returns-in_err-print_line-in-Verify-clause-stopped : goal.returns-in_err-print_line-in-Verify-clause-stopped
+returns-in_err-print_line-in-Verify-clause-stopped g c = search rules
 
-pub returns-in_ok-write_whole-in-Verify-clause-answer : goal.returns-in_ok-write_whole-in-Verify-clause-answer
-returns-in_ok-write_whole-in-Verify-clause-answer g c = search rules
+pub returns-in_ok-print_line-in-Verify-clause-answer : goal.returns-in_ok-print_line-in-Verify-clause-answer
+returns-in_ok-print_line-in-Verify-clause-answer g c = search rules
 
 pub returns-in-TableByPath-true-clause-stopped : goal.returns-in-TableByPath-true-clause-stopped
 returns-in-TableByPath-true-clause-stopped g c =

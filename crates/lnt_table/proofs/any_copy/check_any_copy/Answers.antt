@@ -1,10 +1,12 @@
 use Rattle.std.proofs.Common.{◌≡◌, ◌∙◌, sym}
+use Rattle.std.proofs.lemmas.Option.{IfSome_then}
 use Rattle.lnt_table.specs.declared.kinds.OfKind.TheVariants.{Numbered}
 use Rattle.lnt_table.specs.declared.verdict.TableNo.TheVariants as no
 use Rattle.lnt_table.specs.declared.verdict.Verdict.TheVariants.{No}
 use Rattle.lnt_table.specs.declared.within.CheckedWithin.TheVariants.{Checked as Told}
 use Rattle.lnt_table.specs.AnyCopy.{skipping}
-use Rattle.lnt_table.proofs.AnyCopyLemmas.{any_scope, any_told, not_any, section_any}
+use Rattle.lnt_table.proofs.AnyCopyLemmas.{any_told}
+use Rattle.lnt_table.proofs.JudgedLemmas.{not_within, of_scope, section_within}
 use Rattle.lnt_table.proofs.any_copy.check_any_copy.Goals as goal
 
 pub returns-clause-checked : goal.returns-clause-checked
@@ -16,15 +18,15 @@ returns-clause-checked g c =
 pub returns-clause-of_section : goal.returns-clause-of_section
 returns-clause-of_section g c =
     rw c.told.ensures
-    (section_any c.args.strings.now.line.now c.args.strings.now.general.now (skipping c.args.options.now)
-    (g.R.Source.remaining c.args.section.now)
-    c.in-Good.index c.args.scope c.in_ok-asked.asked (rw c.in-Good.is at c.in_ok-index.ensures.judged))
+    (section_within c.args.strings.now.line.now c.args.strings.now.general.now (skipping c.args.options.now)
+    (g.R.Source.remaining c.args.section.now) c.in-Good.index c.args.scope c.in_ok-asked.asked
+    (IfSome_then (g.R.Source.remaining c.args.section.now) (rw c.in-Good.is at c.in_ok-index.ensures.judged) (λ bytes is. is.indexed)))
 
 pub returns-clause-of_scope : goal.returns-clause-of_scope
 returns-clause-of_scope g c =
-    rw c.told.ensures (any_scope c.args.scope c.in_ok-asked.asked)
+    rw c.told.ensures (of_scope c.args.scope c.in_ok-asked.asked)
 
 pub returns-clause-unread : goal.returns-clause-unread
 returns-clause-unread g c reason e =
     let same : c.told.result ≡ Told (Numbered (No (no.Section reason))) = cc in
-    absurd (not_any c.args.scope c.in_ok-asked.asked reason (sym c.told.ensures ∙ same))
+    absurd (not_within c.args.scope c.in_ok-asked.asked reason (sym c.told.ensures ∙ same))
