@@ -1,9 +1,11 @@
 -- A frame has one spelling, which is the prefix of no other frame's; and where a fault of a frame is so, the bytes begin with none.
 -- Crates above cite these.
-use Rattle.std.proofs.Common.{◌≡◌, ℕ, ◌≤◌, List, ◌++◌, length, sym, append_assoc, arith, [], length-append, append-nil}
+use Rattle.std.proofs.Common.{◌≡◌, ◌≢◌, ◌^◌, ◌<◌, ℕ, ◌≤◌, List, ◌++◌, length, sym, append_assoc, arith, [], length-append, append-nil}
 use Rattle.lnt_wire.specs.Bytes.{IsCode, NoneSpelled}
-use Rattle.lnt_wire.specs.FrameBytes.{FrameBytes, version_five, Order, initial_length, LengthFits}
-use Rattle.lnt_wire.specs.FrameFaults.{IsCutFrame, InFrame, IsReserved, IsFrameFault}
+use Rattle.lnt_wire.specs.FrameBytes.{FrameBytes, PrefixBytes, Order, initial_length, LengthFits}
+use Rattle.lnt_wire.specs.FrameFaults.{IsCutFrame, InFrame, IsReserved, IsFrameFault, IsPrefixFault}
+use Rattle.lnt_wire.specs.Numbers.{number_bytes}
+use Rattle.lnt_wire.specs.declared.fault.Reason.TheVariants.{VersionNotFive}
 use Rattle.lnt_wire.proofs.LengthLaws.{width_4, same_prefix, same_number_prefix, same_length, length-initial, length-number_bytes, width_2}
 use Rattle.lnt_wire.specs.declared.format.Format.{Format}
 use Rattle.lnt_wire.specs.declared.fault.Reason.{Reason}
@@ -31,17 +33,37 @@ in_frame_body : (order : Order) (format g : Format) (body left more before from 
     → initial_length format order (length body) ++ (body ++ more) ≡ before ++ from → body ≡ left
 in_frame_body order format g body left more before from fits h e = grind (arith, common_steps, same_body, append-nil)
 
--- where a fault is so, no initial length and body of version 5 stand there
-no_frame_at : (order : Order) (reason : Reason) (before from : List ℕ) → IsFrameFault order reason before from
-    → (format : Format) (body past more : List ℕ)
-    → LengthFits format (length body) → body ≡ version_five order ++ past
-    → initial_length format order (length body) ++ (body ++ more) ≡ before ++ from → ⊥
-no_frame_at order reason before from h format body past more fits version e =
+-- where a fault is so and a unit stands, the fault is that of its version
+fault_at : (order : Order) (reason : Reason) (before from : List ℕ) → IsFrameFault order reason before from
+    → (format : Format) (version : ℕ) (body past more : List ℕ) → LengthFits format (length body) → version < 2 ^ 16
+    → body ≡ number_bytes order 2 version ++ past → initial_length format order (length body) ++ (body ++ more) ≡ before ++ from
+    → (reason ≡ VersionNotFive version) × (version ≢ 5)
+fault_at order reason before from h format version body past more fits small joined e =
     grind (arith, common_steps, cut_none, length-append, in_frame_body, length-number_bytes, reserved_none, same_number_prefix, width_2)
+
+pub version_fault : (order : Order) (reason : Reason) (before from : List ℕ) → IsFrameFault order reason before from
+    → (unit : Format × ℕ × List ℕ) (x more : List ℕ) → PrefixBytes order unit x → x ++ more ≡ before ++ from
+    → (reason ≡ VersionNotFive unit.1) × (unit.1 ≢ 5)
+version_fault order reason before from h (format, version, past) x more p e = grind (arith, common_steps, fault_at, append_assoc)
+
+-- a frame is a unit of version 5
+pub frame_prefix : (order : Order) (format : Format) (body x : List ℕ) → (p : FrameBytes order (format, body) x)
+    → PrefixBytes order (format, 5, p.version.past) x
+frame_prefix order format body x p = grind (arith, common_steps)
 
 pub no_frame : (order : Order) (reason : Reason) (before from : List ℕ) → IsFrameFault order reason before from
     → NoneSpelled (FrameBytes order) (before ++ from)
-no_frame order reason before from h (format, body) spelling more p e = grind (arith, common_steps, no_frame_at, append_assoc)
+no_frame order reason before from h (format, body) x more p e = grind (arith, common_steps, version_fault, frame_prefix)
+
+pub no_prefix : (order : Order) (reason : Reason) (before from : List ℕ) → IsPrefixFault order reason before from
+    → NoneSpelled (PrefixBytes order) (before ++ from)
+no_prefix order reason before from h unit x more p e = grind (arith, common_steps, version_fault)
+
+-- what two units at one place say is the same
+pub one_prefix : (order : Order) (u v : Format × ℕ × List ℕ) (x y r s : List ℕ) → PrefixBytes order u x → PrefixBytes order v y
+    → x ++ r ≡ y ++ s → (u.0 ≡ v.0) × (u.1 ≡ v.1) × (u.2 ≡ v.2)
+one_prefix order (f, v, past) (g, w, later) x y r s p q e =
+    grind (arith, common_steps, append_assoc, same_length, same_prefix, same_number_prefix, width_2)
 
 -- a whole frame is not cut
 pub frame_not_cut : (order : Order) (frame : Format × List ℕ) (bytes : List ℕ) → FrameBytes order frame bytes → IsCutFrame order bytes → ⊥

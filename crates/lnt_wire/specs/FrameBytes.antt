@@ -5,6 +5,8 @@ use Rattle.lnt_wire.specs.declared.format.Format.TheVariants.{D32, D64}
 use Rattle.lnt_wire.specs.Numbers.{number_bytes, Format}
 pub use Rattle.lnt_wire.specs.declared.format.Order.{Order}
 pub use Rattle.lnt_wire.specs.declared.frame.Frame.{Frame}
+pub use Rattle.lnt_wire.specs.declared.prefix.Prefix.{Prefix}
+use Rattle.lnt_wire.specs.Reading.{At, Reads}
 
 -- ---- the initial length of a unit (DWARF 5, section 7.4)
 
@@ -23,6 +25,24 @@ pub record InitialBytes (order : Order) (initial : Format × ℕ) (bytes : List 
   pub fits : LengthFits initial.0 initial.1
   pub spelled : bytes ≡ initial_length initial.0 order initial.1
 
+-- an initial length, and after it the body that it counts
+abbrev pub frame_bytes : Order → Format → List ℕ → List ℕ
+frame_bytes order format body = initial_length format order (length body) ++ body
+
+-- ---- units of any version
+
+-- The bytes of a unit with this format, this version, and these bytes after the version.
+pub record PrefixBytes (order : Order) (unit : Format × ℕ × List ℕ) (bytes : List ℕ) : Type 0 where
+  pub small : unit.1 < 2 ^ 16
+  pub fits : LengthFits unit.0 (length (number_bytes order 2 unit.1 ++ unit.2))
+  pub joined : bytes ≡ frame_bytes order unit.0 (number_bytes order 2 unit.1 ++ unit.2)
+
+-- The read gave the prefix of a unit, and moved past the unit, which ends with the body.
+pub record ReadsPrefix (prefix : Prefix) (old new : At) : Type 0 where
+  pub read : Reads (PrefixBytes old.order) (prefix.format, prefix.version, prefix.past.now) old new
+  pub body_is : prefix.body.now ≡ number_bytes old.order 2 prefix.version ++ prefix.past.now
+  pub end_is : new.place ≡ prefix.place + length prefix.body.now
+
 -- ---- frames
 
 -- The 2 bytes of version 5.
@@ -33,10 +53,6 @@ version_five order = number_bytes order 2 5
 pub record BeginsWithFive (order : Order) (body : List ℕ) : Type 0 where
   pub past : List ℕ
   pub joined : body ≡ version_five order ++ past
-
--- an initial length, and after it the body that it counts
-abbrev pub frame_bytes : Order → Format → List ℕ → List ℕ
-frame_bytes order format body = initial_length format order (length body) ++ body
 
 -- The bytes of a frame with this format and this body: the initial length, and after it the body that it counts, which begins with
 -- version 5.

@@ -52,6 +52,10 @@ IsFrameFault order ReservedLength before from = (before ≡ []) × IsReserved or
 IsFrameFault order (VersionNotFive version) before from = IsOtherVersion order version before from
 IsFrameFault order _ before from = ⊥
 
+-- The reasons why the bytes don't begin with a unit of any version: those of a frame that aren't another version.
+abbrev pub IsPrefixFault : Order → Reason → List ℕ → List ℕ → Type 0
+IsPrefixFault order reason before from = IsFrameFault order reason before from × ((version : ℕ) → reason ≢ VersionNotFive version)
+
 -- ---- why the readers of a frame's parts fail: that of the initial length, and that of the version. Why bytes don't begin with a
 -- frame is `IsFrameFault`.
 

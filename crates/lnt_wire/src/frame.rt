@@ -9,7 +9,7 @@ ghost use Rattle.lnt_wire.specs.Reading.{Reads, Refuses};
 use crate::cursor::Cursor;
 use crate::fault::{Fault, Reason};
 use crate::format::{Format, Order};
-use crate::initial::{begins_with_five, initial_length};
+use crate::prefix::take_prefix;
 use std::alloc::Global;
 
 /// A unit whose contents aren't parsed yet: its initial length, and its body, of which only the version, 5, was checked.
@@ -39,29 +39,19 @@ pub fn take_frame<'a>(cursor: &mut Cursor<'a>) -> Result<Frame<'a>, Fault>
 {
     let offset = cursor.place();
     let mut ahead = cursor.fork();
-    let (format, length) = match initial_length(&mut ahead) {
-        Ok(initial) => initial,
-        Err(reason) => {
-            return Err(Fault {
-                place: offset,
-                reason,
-            });
-        }
-    };
-    let start = ahead.place();
-    let Ok(body) = ahead.take(length as usize) else {
+    let prefix = take_prefix(&mut ahead)?;
+    if prefix.version != 5 {
         return Err(Fault {
-            place: offset,
-            reason: Reason::Truncated,
+            place: prefix.place,
+            reason: Reason::VersionNotFive(prefix.version),
         });
-    };
-    begins_with_five(body, start, cursor.order())?;
+    }
     *cursor = ahead;
     Ok(Frame {
         offset,
-        format,
-        length,
-        body,
+        format: prefix.format,
+        length: prefix.body.len() as u64,
+        body: prefix.body,
     })
 }
 

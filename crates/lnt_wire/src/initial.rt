@@ -1,12 +1,12 @@
-//! The initial length and the version of a unit (DWARF 5, sections 6.2.4 and 7.4).
-ghost use Rattle.std.specs.Prelude.{◌≡◌, ◌+◌, ◌^◌, ◌<◌, length, IfOk, IfErr, OnErr, OnOk};
-ghost use Rattle.lnt_wire.specs.FrameBytes.{BeginsWithFive, InitialBytes};
-ghost use Rattle.lnt_wire.specs.FrameFaults.{IsInitialFault, IsVersionFault};
+//! The initial length of a unit (DWARF 5, section 7.4).
+ghost use Rattle.std.specs.Prelude.{◌≡◌, IfOk, IfErr, OnErr};
+ghost use Rattle.lnt_wire.specs.FrameBytes.{InitialBytes};
+ghost use Rattle.lnt_wire.specs.FrameFaults.{IsInitialFault};
 ghost use Rattle.lnt_wire.specs.Reading.{Reads};
 
 use crate::cursor::Cursor;
-use crate::fault::{Fault, Reason};
-use crate::format::{Format, Order};
+use crate::fault::Reason;
+use crate::format::Format;
 
 /// The initial length at the cursor: the format, and the number of bytes of the unit after it (DWARF 5, section 7.4).
 ///
@@ -45,21 +45,4 @@ fn read_initial(cursor: &mut Cursor<'_>) -> Result<(Format, u64), Reason>
         Ok(length) => Ok((Format::D64, length)),
         Err(_) => Err(Reason::Truncated),
     }
-}
-
-// Checks that the body of a unit begins with version 5. Its first byte is at the offset `place` in the section, which is
-// the place of the faults: `Truncated` if it has fewer than 2 bytes, and `VersionNotFive`.
-pub(crate) fn begins_with_five(body: &[u8], place: u64, order: Order) -> Result<(), Fault>
-    requires { place + length body.now < 2 ^ 64 }
-    ensures ok { OnOk result (BeginsWithFive order body.now) }
-    ensures err { IfErr result (λ fault. (fault.place ≡ place) × IsVersionFault order fault.reason body.now) }
-{
-    let version = Cursor::new(body, place, order).u16()?;
-    if version != 5 {
-        return Err(Fault {
-            place,
-            reason: Reason::VersionNotFive(version),
-        });
-    }
-    Ok(())
 }

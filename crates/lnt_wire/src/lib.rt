@@ -23,6 +23,7 @@ mod items;
 pub mod laws;
 mod leb;
 mod number;
+mod prefix;
 mod put;
 mod strings;
 mod value;
@@ -43,6 +44,7 @@ pub use cursor::Cursor;
 pub use fault::{Fault, Reason};
 pub use frame::{Frame, Framed, frames, take_frame};
 pub use initial::initial_length;
+pub use prefix::{Prefix, take_prefix};
 
 // Writing.
 pub use put::{
