@@ -3,7 +3,6 @@ pub mod FieldLemmas
 pub mod FileZeroLemmas
 pub mod ZeroRowLemmas
 pub mod FirstFieldLaws
-pub mod PrefixLemmas
 pub mod HeaderLemmas
 pub mod ListFaultLemmas
 pub mod ListLemmas

@@ -3,16 +3,14 @@ use Rattle.std.proofs.Common.{◌≡◌, ◌≢◌, ℕ, ◌<◌, ◌≤◌, ◌
 use Rattle.std.proofs.lemmas.List.{length-append, append-nil}
 use Rattle.lnt_wire.specs.Reading.{At}
 use Rattle.lnt_wire.specs.Bytes.{NoneSpelled}
-use Rattle.lnt_wire.specs.FrameBytes.{frame_bytes, initial_length, LengthFits}
-use Rattle.lnt_wire.specs.FrameFaults.{InFrame, IsFrameFault, IsVersionFault}
+use Rattle.lnt_wire.specs.FrameBytes.{frame_bytes, LengthFits, PrefixBytes, ReadsPrefix}
+use Rattle.lnt_wire.specs.FrameFaults.{IsFrameFault, IsVersionFault}
 use Rattle.lnt_wire.specs.Numbers.{number_bytes, offset_size}
 use Rattle.lnt_wire.specs.declared.fault.Reason.{Reason}
 use Rattle.lnt_wire.specs.declared.fault.Reason.TheVariants.{VersionNotFive}
 use Rattle.lnt_wire.specs.declared.format.Format.{Format}
 use Rattle.lnt_wire.specs.declared.format.Order.{Order}
-use Rattle.lnt_wire.proofs.FrameFaultLaws.{frame_fault_at, IsFrameFaultAt, outside_none, same_frame}
-use Rattle.lnt_wire.proofs.FrameFaultLaws.IsFrameFaultAt.{outside_frame, in_version}
-use Rattle.lnt_wire.proofs.FrameLaws.{no_frame}
+use Rattle.lnt_wire.proofs.FrameLaws.{frame_prefix, no_frame, one_prefix, version_fault}
 use Rattle.lnt_wire.proofs.LengthLaws.{length-number_bytes, same_prefix, same_length, same_number_prefix, width_2}
 use Rattle.lnt_wire.proofs.ValueLaws.{offset_width}
 use Rattle.lnt_header.specs.Parts.{HeaderParts}
@@ -23,8 +21,8 @@ use Rattle.lnt_older.specs.OlderFields.{FieldsOf}
 use Rattle.lnt_header_bytes.specs.HeaderFaults.{single_fields}
 use Rattle.lnt_older.specs.OlderUnits.{AnyBytes}
 use Rattle.lnt_older.specs.OlderUnits.AnyParts.{five_parts, older_parts}
-use Rattle.lnt_older.specs.UnitReading.{prefix_body, PastBytes, ReadsPrefix}
-use Rattle.lnt_older.specs.declared.prefix.Prefix.{Prefix}
+use Rattle.lnt_older.specs.UnitReading.{PastBytes}
+use Rattle.lnt_wire.specs.declared.prefix.Prefix.{Prefix}
 use Rattle.lnt_header_bytes.proofs.HeaderFrames.{singles_of}
 use Rattle.lnt_older.proofs.HeaderLemmas.{singles_in}
 use Rattle.std.proofs.lemmas.Grind.{common_steps}
@@ -54,25 +52,22 @@ other_version order reason version left rest other k e =
 
 -- ---- frames
 
--- a frame, with nothing of its body before the place
-stands : (order : Order) (format : Format) (body more : List ℕ) → LengthFits format (length body)
-    → InFrame order format [] body (initial_length format order (length body)) (body ++ more)
-stands order format body more fits = grind (arith, common_steps, append-nil)
-
-no_older_body : (order : Order) (reason : Reason) (before from : List ℕ) → IsNoOlder reason → IsFrameFaultAt order reason before from
-    → (format : Format) (version : OlderVersion) (body rest x more : List ℕ) → body ≡ number_bytes order 2 (version_number version) ++ rest
-    → LengthFits format (length body) → x ≡ frame_bytes order format body → x ++ more ≡ before ++ from → ⊥
-no_older_body order reason before from other k format version body rest x more b fits x_is e =
-    grind (arith, common_steps, outside_frame, outside_none, stands, append_assoc, in_version, same_frame, other_version)
-
-no_older : (h : HeaderParts) (reason : Reason) (before from : List ℕ) → IsNoOlder reason → IsFrameFaultAt h.numbers.order reason before from
-    → (program x more : List ℕ) → OlderBytes h program x → x ++ more ≡ before ++ from → ⊥
-no_older h reason before from other k program x more p e =
+-- an older unit is a unit of its version
+older_prefix : (h : HeaderParts) (order : Order) (program x : List ℕ) → h.numbers.order ≡ order → (p : OlderBytes h program x)
+    → PrefixBytes order (
+      h.format,
+      version_number p.version,
+      number_bytes order (offset_size h.format) (length p.fields) ++ (p.fields ++ program),
+    ) x
+older_prefix h order program x is p =
     let n = h.numbers in
     let rest = number_bytes n.order (offset_size h.format) (length p.fields) ++ (p.fields ++ program) in
     let whole : older_body p.version h p.fields program ≡ number_bytes n.order 2 (version_number p.version) ++ rest = simp append_assoc in
-    no_older_body n.order reason before from other k h.format p.version (older_body p.version h p.fields program) rest x more whole p.fits
-    p.joined e
+    rw (← is) (record {
+      small = small_version p.version;
+      fits = rw whole at p.fits;
+      joined = p.joined ∙ ap (λ (z : List ℕ). frame_bytes n.order h.format z) whole;
+    })
 
 -- where the initial length or the version is at fault
 pub none_in_frame : (order : Order) (reason : Reason) (before from : List ℕ) → IsNoOlder reason → IsFrameFault order reason before from
@@ -80,7 +75,8 @@ pub none_in_frame : (order : Order) (reason : Reason) (before from : List ℕ) �
 none_in_frame order reason before from other h (five_parts format body) x more p e =
     no_frame order reason before from h (format, body) x more p e
 none_in_frame order reason before from other h (older_parts parts program) x more p e =
-    no_older parts reason before from other (rw p.0 (frame_fault_at order reason before from h)) program x more p.1 e
+    let unit = older_prefix parts order program x p.0 p.1 in
+    other p.1.version (version_fault order reason before from h _ x more unit e).0
 
 -- ---- what stands after the version
 
@@ -145,31 +141,24 @@ pub none_of_unit : (prefix : Prefix) (version : OlderVersion) (old new : At) →
     → prefix.version ≡ version_number version
     → NoneSpelled (PastBytes prefix.format version old.order) prefix.past.now → NoneSpelled (AnyBytes old.order) old.rest
 none_of_unit prefix version old new r version_is none (five_parts format body) x more p e =
-    let order = old.order in
-    let found = one_body order prefix.format format (prefix_body order prefix) body new.rest more old.rest r.fits p.fits r.whole
-    (rw p.joined at e) in
-    let same = same_number_prefix order 2 width_2 5 (version_number version) p.version.past prefix.past.now (omega arith)
-    (small_version version) (sym p.version.joined ∙ found.1 ∙ rw version_is refl) in
-    not_five version same.0
+    let found = one_prefix old.order (format, 5, p.version.past) (prefix.format, prefix.version, prefix.past.now) x r.read.spelling more
+    new.rest (frame_prefix old.order format body x p) r.read.spelled (e ∙ r.read.whole) in
+    not_five version (found.1 ∙ version_is)
 none_of_unit prefix version old new r version_is none (older_parts h program) x more p e =
     let order = old.order in
     let q = p.1 in
-    let body = older_body q.version h q.fields program in
-    let size = offset_size h.format in
-    let found = one_body order prefix.format h.format (prefix_body order prefix) body new.rest more old.rest r.fits q.fits r.whole
-    (ap (λ (z : List ℕ). z ++ more) (sym (q.joined ∙ ap (λ (o : Order). frame_bytes o h.format body) p.0)) ∙ e) in
-    let other_is : body ≡ number_bytes order 2 (version_number q.version)
-    ++ (number_bytes order size (length q.fields) ++ (q.fields ++ program)) = simp (p.0, append_assoc) in
-    let same = same_number_prefix order 2 width_2 (version_number q.version) (version_number version)
-    (number_bytes order size (length q.fields) ++ (q.fields ++ program)) prefix.past.now (small_version q.version)
-    (small_version version) (sym other_is ∙ found.1 ∙ rw version_is refl) in
+    let past = number_bytes order (offset_size h.format) (length q.fields) ++ (q.fields ++ program) in
+    let unit = older_prefix h order program x p.0 q in
+    let found = one_prefix order (h.format, version_number q.version, past) (prefix.format, prefix.version, prefix.past.now) x
+    r.read.spelling more new.rest unit r.read.spelled (e ∙ r.read.whole) in
+    let body = number_bytes order 2 (version_number q.version) ++ past in
     let few : length q.fields ≤ length body = omega (arith, length-append {A = ℕ}) in
     none (h, program) prefix.past.now []
     (record {
       fields = q.fields;
       format_is = found.0;
       order_is = p.0;
-      counted = rw (same_version q.version version same.0) at q.counted;
-      small = rw found.0 at (below h.format (length body) (length q.fields) q.fits few);
-      joined = sym same.1 ∙ rw found.0 refl;
+      counted = rw (same_version q.version version (found.1 ∙ version_is)) at q.counted;
+      small = rw found.0 at (below h.format (length body) (length q.fields) unit.fits few);
+      joined = sym found.2 ∙ rw found.0 refl;
     }) (append-nil prefix.past.now)

@@ -1,31 +1,34 @@
 -- Older units that are read, and the first field of them that isn't there.
-use Rattle.std.proofs.Common.{◌≡◌, ℕ, ◌+◌, ◌-◌, List, [], ◌++◌, length, take, refl, sym, ap, subst, ◌∙◌, append_assoc, add-zero, arith}
+use Rattle.std.proofs.Common.{◌≡◌, ◌≢◌, ℕ, ◌+◌, ◌-◌, ◌<◌, ◌^◌, List, [], ◌++◌, length, take, refl, sym, ap, subst, ◌∙◌}
+use Rattle.std.proofs.Common.{append_assoc, add-zero, arith}
 use Rattle.std.proofs.lemmas.List.{length-append, append-nil}
 use Rattle.lnt_wire.specs.Reading.{At, Reads, RefusesField, Refuses}
-use Rattle.lnt_wire.specs.FrameBytes.{frame_bytes, initial_length, LengthFits}
-use Rattle.lnt_wire.specs.FrameFaults.{InFrame}
+use Rattle.lnt_wire.specs.FrameBytes.{frame_bytes, FrameBytes, initial_length, LengthFits, PrefixBytes, ReadsPrefix}
+use Rattle.lnt_wire.specs.FrameFaults.{InFrame, IsFrameFault, IsPrefixFault}
 use Rattle.lnt_wire.specs.Numbers.{number_bytes, offset_size}
 use Rattle.lnt_wire.specs.declared.fault.Fault.{Fault}
 use Rattle.lnt_wire.specs.declared.fault.Reason.{Reason}
+use Rattle.lnt_wire.specs.declared.fault.Reason.TheVariants.{VersionNotFive}
 use Rattle.lnt_wire.specs.declared.format.Format.{Format}
 use Rattle.lnt_wire.specs.declared.format.Order.{Order}
+use Rattle.lnt_wire.proofs.FrameReadingLaws.{refuses_frame, refuses_version}
 use Rattle.lnt_wire.proofs.LengthLaws.{length-number_bytes}
+use Rattle.lnt_header_bytes.proofs.Prefixes.{prefix_taken}
 use Rattle.lnt_header_bytes.specs.HeaderReading.{standing}
 use Rattle.lnt_header_bytes.specs.HeaderBytes.{CountedBytes}
 use Rattle.lnt_header_bytes.specs.HeaderFaults.{IsCountedFault}
 use Rattle.lnt_older.specs.OlderFields.{FieldsOf, IsFieldsFault, IsReadHeader}
-use Rattle.lnt_older.specs.OlderUnits.{AnyBytes, IsAnyFault, IsOlderUnit, IsSoundUnit, ReadsAny, ReadsOlder, OlderUnit}
+use Rattle.lnt_older.specs.OlderUnits.{AnyBytes, IsAnyFault, IsOlderUnit, IsSoundUnit, ReadsAny, ReadsFive, ReadsOlder, OlderUnit}
 use Rattle.lnt_older.specs.OlderUnits.IsAnyFault.{header_length, of_fields}
-use Rattle.lnt_older.specs.UnitReading.{prefix_body, IsAnyBodyFault, IsAnyOf, IsBodyFault, IsPastFault, IsOlderOf, ReadsPrefix}
+use Rattle.lnt_older.specs.UnitReading.{IsAnyBodyFault, IsAnyOf, IsBodyFault, IsPastFault, IsOlderOf}
 use Rattle.lnt_older.specs.UnitReading.IsAnyBodyFault.{of_body, of_version}
 use Rattle.lnt_older.specs.UnitReading.IsPastFault.{of_length, of_field}
 use Rattle.lnt_older.specs.OlderBytes.{version_number, OlderVersion}
-use Rattle.lnt_older.specs.declared.prefix.Prefix.{Prefix}
+use Rattle.lnt_wire.specs.declared.prefix.Prefix.{Prefix}
 use Rattle.lnt_older.specs.declared.unit.AnyUnit.{AnyUnit}
 use Rattle.lnt_older.specs.declared.unit.AnyUnit.TheVariants as units
-use Rattle.lnt_older.proofs.PrefixLemmas.{five_read, version_unknown}
 use Rattle.lnt_older.proofs.HeaderLemmas.{moved_numbers}
-use Rattle.lnt_older.proofs.NoUnitLemmas.{none_counted, none_of_fields, none_of_unit, to_pairs}
+use Rattle.lnt_older.proofs.NoUnitLemmas.{IsNoOlder, none_counted, none_in_frame, none_of_fields, none_of_unit, to_pairs}
 use Rattle.std.proofs.lemmas.Grind.{common_steps}
 
 -- ---- what stands after the version
@@ -88,6 +91,60 @@ field_missing prefix version order counted c0 c1 place fault rest_is place_is or
           (past ∙ append_assoc number counted c1.rest) s.none;
     }
 
+-- ---- the prefix of a unit
+
+-- the bytes after the version end below 2 ^ 64
+pub prefix_room : (prefix : Prefix) (old new : At) → ReadsPrefix prefix old new → old.place + length old.rest < 2 ^ 64
+    → prefix.place + 2 + length prefix.past.now < 2 ^ 64
+prefix_room prefix old new r room =
+    omega (arith, room, r.end_is, r.read.place, ap length r.body_is, ap length r.read.whole, length-append {A = ℕ}, length-number_bytes)
+
+whole_prefix : (prefix : Prefix) (old new : At) → ReadsPrefix prefix old new
+    → old.rest ≡ frame_bytes old.order prefix.format (number_bytes old.order 2 prefix.version ++ prefix.past.now) ++ new.rest
+whole_prefix prefix old new r = r.read.whole ∙ ap (λ (z : List ℕ). z ++ new.rest) r.read.spelled.joined
+
+frame_fault : (old : At) (fault : Fault) → IsNoOlder fault.reason
+    → Refuses (IsFrameFault old.order) (FrameBytes old.order) old fault → Refuses (IsAnyFault old.order) (AnyBytes old.order) old fault
+frame_fault old fault other r = grind (arith, common_steps, none_in_frame)
+
+-- no unit is there, of whatever version
+pub none_there : (old : At) (fault : Fault) → Refuses (IsPrefixFault old.order) (PrefixBytes old.order) old fault
+    → Refuses (IsAnyFault old.order) (AnyBytes old.order) old fault
+none_there old fault r = frame_fault old fault (λ version. r.reason.1 (version_number version)) (refuses_frame old fault r)
+
+-- the version is none of 2 to 5
+version_unknown : (prefix : Prefix) (old new : At) (fault : Fault) → ReadsPrefix prefix old new → prefix.version ≢ 5
+    → ((version : OlderVersion) → version_number version ≢ prefix.version) → fault.place ≡ prefix.place
+    → fault.reason ≡ VersionNotFive prefix.version → Refuses (IsAnyFault old.order) (AnyBytes old.order) old fault
+version_unknown prefix old new fault r five none place reason =
+    let other : IsNoOlder fault.reason = λ version e.
+    let both : VersionNotFive prefix.version ≡ VersionNotFive (version_number version) = sym reason ∙ e in
+    let same : prefix.version ≡ version_number version = cc in
+    none version (sym same) in
+    frame_fault old fault other (refuses_version old new prefix fault r five place reason)
+
+-- a unit of version 5
+five_read : (prefix : Prefix) (bytes all left : List ℕ) (old new : At) → ReadsPrefix prefix old new → prefix.version ≡ 5
+    → all ≡ old.rest → left ≡ new.rest → bytes ≡ take (length all - length left) all → ReadsFive bytes old new
+five_read prefix bytes all left old new r version_is all_is left_is bytes_are =
+    let q = r.read in
+    record {
+      format = prefix.format;
+      body = number_bytes old.order 2 prefix.version ++ prefix.past.now;
+      read = record {
+        spelling = q.spelling;
+        spelled = record {
+          fits = q.spelled.fits;
+          version = record { past = prefix.past.now; joined = rw version_is refl };
+          joined = q.spelled.joined;
+        };
+        whole = q.whole;
+        place = q.place;
+        order = q.order;
+      };
+      bytes_are = prefix_taken q.spelling (all_is ∙ q.whole) left_is bytes_are;
+    }
+
 -- ---- whole units
 
 in_prefix : (order : Order) (format : Format) (digits before from more body : List ℕ) → LengthFits format (length body)
@@ -109,16 +166,26 @@ older_missing : (prefix : Prefix) (version : OlderVersion) (order : Order) (faul
 older_missing prefix version order fault old new r version_is order_is there =
     let b = rw order_is at there in
     let digits = number_bytes old.order 2 (version_number version) in
-    let body = prefix_body old.order prefix in
+    let body = number_bytes old.order 2 prefix.version ++ prefix.past.now in
     let initial = initial_length prefix.format old.order (length body) in
     let body_is : body ≡ (digits ++ b.before) ++ b.left = rw (version_is, b.split) (sym (append_assoc digits b.before b.left)) in
     record {
       before = initial ++ (digits ++ b.before);
       left = b.left ++ new.rest;
-      split = r.whole ∙ ap (λ (z : List ℕ). (initial ++ z) ++ new.rest) body_is ∙ to_pairs initial (digits ++ b.before) b.left new.rest;
-      place = omega (arith, b.place, r.body_place, length-append {A = ℕ}, length-number_bytes);
+      split = whole_prefix prefix old new r ∙ ap (λ (z : List ℕ). (initial ++ z) ++ new.rest) body_is
+          ∙ to_pairs initial (digits ++ b.before) b.left new.rest;
+      place = omega (
+        arith,
+        b.place,
+        r.end_is,
+        r.read.place,
+        ap length r.read.spelled.joined,
+        ap length r.body_is,
+        length-append {A = ℕ},
+        length-number_bytes,
+      );
       reason = fault_of old.order prefix.format version fault.reason b.before b.left (initial ++ (digits ++ b.before)) (b.left ++ new.rest)
-          (in_prefix old.order prefix.format digits b.before b.left new.rest body r.fits body_is) b.reason;
+          (in_prefix old.order prefix.format digits b.before b.left new.rest body r.read.spelled.fits body_is) b.reason;
       none = none_of_unit prefix version old new r version_is b.none;
     }
 
@@ -127,7 +194,7 @@ older_read : (prefix : Prefix) (version : OlderVersion) (order : Order) (unit : 
 older_read prefix version order unit old new r version_is order_is there =
     let u = rw order_is at there in
     let program = unit.program.now in
-    let body = prefix_body old.order prefix in
+    let body = number_bytes old.order 2 prefix.version ++ prefix.past.now in
     let number = number_bytes old.order (offset_size prefix.format) (length u.counted) in
     let body_is : body ≡ number_bytes old.order 2 (version_number version) ++ number ++ u.counted ++ program =
     simp (version_is, u.joined, append_assoc) in
@@ -137,7 +204,7 @@ older_read prefix version order unit old new r version_is order_is there =
       order_is = u.order_is;
       lie = rw (u.format_is, u.order_is) u.header.lie;
       read = λ size is. rw (u.format_is, u.order_is) (record {
-        spelling = frame_bytes old.order prefix.format body;
+        spelling = r.read.spelling;
         spelled = record {
           order_is = refl;
           size_is = refl;
@@ -145,17 +212,17 @@ older_read prefix version order unit old new r version_is order_is there =
             version = version;
             fields = u.counted;
             counted = u.header.spelled size is;
-            fits = rw body_is at r.fits;
-            joined = ap (λ (z : List ℕ). frame_bytes old.order prefix.format z) body_is;
+            fits = rw body_is at r.read.spelled.fits;
+            joined = r.read.spelled.joined ∙ ap (λ (z : List ℕ). frame_bytes old.order prefix.format z) body_is;
           };
         };
-        whole = r.whole;
-        place = r.place;
-        order = r.order;
+        whole = r.read.whole;
+        place = r.read.place;
+        order = r.read.order;
       });
       version = version;
-      joined = r.whole ∙ rw (u.format_is, u.order_is, ← u.header.joined) (ap (λ (z : List ℕ). frame_bytes old.order prefix.format z ++
-          new.rest) body_is);
+      joined = whole_prefix prefix old new r ∙ rw (u.format_is, u.order_is, ← u.header.joined) (ap (λ (z : List ℕ).
+          frame_bytes old.order prefix.format z ++ new.rest) body_is);
     }
 
 older_sound : (prefix : Prefix) (version : OlderVersion) (order : Order) (unit : OlderUnit) → IsOlderOf prefix version order unit
@@ -184,7 +251,7 @@ any_sound prefix bytes order (units.Older unit) p = older_sound prefix p.0 order
 pub any_missing : (prefix : Prefix) (order : Order) (fault : Fault) (old new : At) → ReadsPrefix prefix old new → order ≡ old.order
     → IsAnyBodyFault prefix order fault → Refuses (IsAnyFault old.order) (AnyBytes old.order) old fault
 any_missing prefix order fault old new r order_is (of_version small five none place reason) =
-    version_unknown prefix old new fault r small five none place reason
+    version_unknown prefix old new fault r five none place reason
 any_missing prefix order fault old new r order_is (of_body version is there) =
     older_missing prefix version order fault old new r is order_is there
 
@@ -202,7 +269,7 @@ pub fault_there : (other at : At) (fault : Fault) → other.place ≡ at.place �
 fault_there other at fault place rest order p = rw (same_at other at place rest order) at p
 
 -- The lemmas of `read_any_unit`.
-pub ruleset read_any_unit_lemmas = (any_read, any_sound, any_missing)
+pub ruleset read_any_unit_lemmas = (any_read, any_sound, any_missing, none_there, prefix_room)
 
 -- The lemmas of `older_unit`.
 pub ruleset older_unit_lemmas = (unit_found, length_missing, field_missing)

@@ -1,4 +1,4 @@
--- What the prefix of a unit gives, up to its version. No public contract speaks of it.
+-- What the reads of the parts of a unit give. No public contract speaks of it.
 use Rattle.std.specs.Prelude.{◌≡◌, ℕ, List, [], ◌≢◌, ◌+◌, ◌^◌, ◌<◌, ◌++◌, length}
 use Rattle.lnt_wire.specs.Reading.{At, Reads, Refuses}
 use Rattle.lnt_wire.specs.declared.fault.Reason.{Reason}
@@ -7,7 +7,6 @@ use Rattle.lnt_wire.specs.declared.format.Format.{Format}
 use Rattle.lnt_header.specs.declared.header.Entry.{Entry}
 use Rattle.lnt_older.specs.OlderFields.{FieldsOf, header_spelling, ListsLie, IsFieldsFault, IsReadHeader}
 use Rattle.lnt_older.specs.declared.header.OlderHeader.{OlderHeader}
-use Rattle.lnt_wire.specs.FrameBytes.{frame_bytes, initial_length, LengthFits}
 use Rattle.lnt_wire.specs.Numbers.{number_bytes, offset_size}
 use Rattle.lnt_wire.specs.declared.fault.Fault.{Fault}
 use Rattle.lnt_wire.specs.declared.format.Order.{Order}
@@ -15,7 +14,7 @@ use Rattle.lnt_header.specs.Parts.{HeaderParts}
 use Rattle.lnt_header_bytes.specs.HeaderReading.{standing}
 use Rattle.lnt_header_bytes.specs.HeaderFaults.{IsCountedFault}
 use Rattle.lnt_older.specs.OlderBytes.{OlderFieldsBytes, version_number, OlderVersion}
-use Rattle.lnt_older.specs.declared.prefix.Prefix.{Prefix}
+use Rattle.lnt_wire.specs.declared.prefix.Prefix.{Prefix}
 use Rattle.lnt_older.specs.declared.unit.AnyUnit.{AnyUnit}
 use Rattle.lnt_older.specs.declared.unit.AnyUnit.TheVariants as units
 use Rattle.lnt_older.specs.declared.unit.OlderUnit.{OlderUnit}
@@ -31,19 +30,7 @@ pub record ReadsParts (version : OlderVersion) (format : Format) (o : OlderHeade
   pub extra_is : o.extra.now ≡ new.rest
   pub joined : old.rest ≡ header_spelling version o
 
--- ---- the prefix of a unit
-
--- the body of a unit, by its version and what stands after that
-abbrev pub prefix_body : Order → Prefix → List ℕ
-prefix_body order prefix = number_bytes order 2 prefix.version ++ prefix.past.now
-
--- The read moved past a unit of this prefix.
-pub record ReadsPrefix (prefix : Prefix) (old new : At) : Type 0 where
-  pub fits : LengthFits prefix.format (length (prefix_body old.order prefix))
-  pub whole : old.rest ≡ frame_bytes old.order prefix.format (prefix_body old.order prefix) ++ new.rest
-  pub body_place : prefix.place ≡ old.place + length (initial_length prefix.format old.order (length (prefix_body old.order prefix)))
-  pub place : new.place ≡ old.place + length (frame_bytes old.order prefix.format (prefix_body old.order prefix))
-  pub order : new.order ≡ old.order
+-- ---- a unit, by its prefix
 
 -- What stands after the version spells an older unit's header and program.
 pub record IsOlderOf (prefix : Prefix) (version : OlderVersion) (order : Order) (unit : OlderUnit) : Type 0 where

@@ -8,7 +8,6 @@ mod directories;
 mod header;
 pub mod laws;
 mod lists;
-mod prefix;
 mod rows;
 mod section;
 mod unit;

@@ -5,10 +5,9 @@ ghost use Rattle.lnt_older.specs.OlderUnits.{AnyBytes, IsAnyFault, IsSoundUnit, 
 ghost use Rattle.lnt_older.specs.UnitReading.{IsAnyBodyFault, IsAnyOf, IsBodyFault, IsOlderOf};
 
 use crate::header::{OlderHeader, read_older_header};
-use crate::prefix::{Prefix, take_prefix};
 use crate::version::OlderVersion;
 use lnt_header_bytes::read_counted;
-use lnt_wire::{Cursor, Fault, Format, Order, Reason};
+use lnt_wire::{Cursor, Fault, Format, Order, Prefix, Reason, take_prefix};
 
 /// A unit of version 2, 3 or 4: its header, whose directories and files stay where they lie, and its program.
 #[derive(Clone, Copy, Debug)]
@@ -50,7 +49,7 @@ pub fn take_any_unit<'a>(cursor: &mut Cursor<'a>) -> Result<AnyUnit<'a>, Fault>
 }
 
 // The same, where nothing is said of the cursor after a refusal.
-#[tactic(auto, using(crate::proofs::UnitLemmas::read_any_unit_lemmas, crate::proofs::PrefixLemmas::prefix_room))]
+#[tactic(auto, using(crate::proofs::UnitLemmas::read_any_unit_lemmas))]
 fn read_any_unit<'a>(cursor: &mut Cursor<'a>) -> Result<AnyUnit<'a>, Fault>
     ensures ok { IfOk result (λ unit. ReadsAny unit cursor.old cursor.new) }
     ensures sound { IfOk result IsSoundUnit }
