@@ -8,8 +8,8 @@ use Rattle.std.proofs.lemmas.List.{length-append, length-take-le, nil_from_lengt
 use Rattle.std.proofs.lemmas.List.Elements.{All-head, All-tail, All-take}
 use Rattle.lnt_wire.specs.Reading.{At, Reads, Refuses}
 use Rattle.lnt_wire.specs.Bytes.{TakenBytes}
-use Rattle.lnt_wire.specs.FrameBytes.{BeginsWithFive, FrameBytes, FramesFrom, IsFrame, initial_length, InitialBytes}
-use Rattle.lnt_wire.specs.FrameFaults.{IsFrameFault, IsInitialFault, IsVersionFault}
+use Rattle.lnt_wire.specs.FrameBytes.{FrameBytes, FramesFrom, IsFrame, initial_length, InitialBytes, ReadsPrefix}
+use Rattle.lnt_wire.specs.FrameFaults.{IsFrameFault, IsInitialFault}
 use Rattle.lnt_wire.specs.FrameFaults.IsCutFrame.{no_length, no_wide_length, too_long}
 use Rattle.lnt_wire.specs.Frames.{EndsBy}
 use Rattle.lnt_wire.specs.Numbers.{NumberBytes, number_bytes}
@@ -20,7 +20,8 @@ use Rattle.lnt_wire.specs.declared.format.Format.{Format}
 use Rattle.lnt_wire.specs.declared.format.Format.TheVariants.{D32, D64}
 use Rattle.lnt_wire.specs.declared.format.Order.{Order}
 use Rattle.lnt_wire.specs.declared.frame.Frame.{Frame}
-use Rattle.lnt_wire.proofs.FrameReadingLaws.{reads_frame, refuses_initial, refuses_version}
+use Rattle.lnt_wire.specs.declared.prefix.Prefix.{Prefix}
+use Rattle.lnt_wire.proofs.FrameReadingLaws.{prefix_initial, prefix_read, prefix_short, reads_frame, refuses_frame, refuses_version}
 use Rattle.lnt_wire.proofs.FrameListLaws.{frame_long}
 use Rattle.lnt_wire.proofs.NumberLaws.{AreBytes as AreItems, number_in, number_read_2, number_read_4, number_read_8}
 use Rattle.lnt_dump.specs.Units.{AreBytes}
@@ -155,33 +156,24 @@ initial_ahead at are = elim (cases_lt (length at.rest) 4) [
 
 -- ---- the version
 
-abbrev NoVersion : Order → List ℕ → Type 0
-NoVersion order body = (reason : Reason) × IsVersionFault order reason body
+-- A version stands there.
+record VersionAhead (order : Order) (body : List ℕ) : Type 0 where
+  version : ℕ
+  past : List ℕ
+  small : version < 2 ^ 16
+  joined : body ≡ number_bytes order 2 version ++ past
 
-version_of : (order : Order) (body : List ℕ) (version : ℕ) → NumberBytes order 2 version (take 2 body)
-    → BeginsWithFive order body ⊎ NoVersion order body
-version_of order body version is =
-    let joined : body ≡ number_bytes order 2 version ++ drop 2 body =
-    sym (take-append-drop 2 body) ∙ ap (λ (z : List ℕ). z ++ drop 2 body) is.spelled in
-    elim (cases_eq version 5) [
-      | inl five ↦
-          inl (record {
-            past = drop 2 body;
-            joined = joined ∙ ap (λ (n : ℕ). number_bytes order 2 n ++ drop 2 body) five;
-          })
-      | inr other ↦
-          let fits : version < 2 ^ 16 = omega (arith, is.fits) in
-          inr (VersionNotFive version, (drop 2 body, fits, other, joined))
-    ]
-
-version_ahead : (order : Order) (body : List ℕ) → AreBytes body → BeginsWithFive order body ⊎ NoVersion order body
-version_ahead order body are = elim (cases_lt (length body) 2) [
-  | inl short ↦ inr (Truncated, short)
-  | inr le ↦
-      let bytes = take 2 body in
-      let n = number_in order 2 bytes in
-      version_of order body n (number_read_2 order n bytes (length-take-le 2 body le) (first_items 2 body are) refl)
-]
+version_ahead : (order : Order) (body : List ℕ) → AreBytes body → 2 ≤ length body → VersionAhead order body
+version_ahead order body are le =
+    let bytes = take 2 body in
+    let n = number_in order 2 bytes in
+    let is = number_read_2 order n bytes (length-take-le 2 body le) (first_items 2 body are) refl in
+    record {
+      version = n;
+      past = drop 2 body;
+      small = omega (arith, is.fits);
+      joined = sym (take-append-drop 2 body) ∙ ap (λ (z : List ℕ). z ++ drop 2 body) is.spelled;
+    }
 
 -- ---- a frame
 
@@ -199,7 +191,7 @@ record NoFrame (at : At) : Type 0 where
 no_initial : (at : At) → NoInitial at → NoFrame at
 no_initial at (reason, so) =
     let fault : Fault = record { place = at.place; reason = reason } in
-    record { fault = fault; refused = refuses_initial at fault refl so }
+    record { fault = fault; refused = refuses_frame at fault (prefix_initial at fault refl so) }
 
 -- it counts more bytes than are left
 long_initial : (at : At) → (i : InitialAhead at) → length i.ahead.rest < i.initial.1 → NoFrame at
@@ -218,27 +210,47 @@ frame_of place initial body =
     let bytes : Bor (List ℕ) = record { ref_ptr = (0, 0); now = body } in
     record { offset = place; format = initial.0; length = initial.1; body = bytes }
 
-whole_body : (at : At) → (i : InitialAhead at) → i.initial.1 ≤ length i.ahead.rest
-    → BeginsWithFive at.order (take i.initial.1 i.ahead.rest) ⊎ NoVersion at.order (take i.initial.1 i.ahead.rest)
-    → FrameAhead at ⊎ NoFrame at
-unfolding frame_of
-whole_body at i le (inl five) =
+prefix_of : Format → ℕ → (order : Order) (body : List ℕ) → VersionAhead order body → Prefix
+prefix_of format place order body v =
+    let all : Bor (List ℕ) = record { ref_ptr = (0, 0); now = body } in
+    let later : Bor (List ℕ) = record { ref_ptr = (0, 0); now = v.past } in
+    record { format = format; version = v.version; place = place; body = all; past = later }
+
+short_body : (at : At) → (i : InitialAhead at) → i.initial.1 ≤ length i.ahead.rest → length (take i.initial.1 i.ahead.rest) < 2
+    → NoFrame at
+short_body at i le short =
     let count = i.initial.1 in
-    let frame = frame_of at.place i.initial (take count i.ahead.rest) in
-    inl (record {
-      frame = frame;
-      next = past count i.ahead;
-      offset_is = refl;
-      read = reads_frame at i.ahead (past count i.ahead) i.initial frame i.read (body_read i.ahead count le) refl refl five;
-    })
-whole_body at i le (inr (reason, so)) =
-    let count = i.initial.1 in
-    let fault : Fault = record { place = i.ahead.place; reason = reason } in
-    inr (record {
+    let fault : Fault = record { place = i.ahead.place; reason = Truncated } in
+    record {
       fault = fault;
-      refused = refuses_version at i.ahead (past count i.ahead) i.initial (take count i.ahead.rest) fault i.read
-          (body_read i.ahead count le) refl so;
-    })
+      refused = refuses_frame at fault (prefix_short at i.ahead (past count i.ahead) i.initial (take count i.ahead.rest) fault i.read
+          (body_read i.ahead count le) refl refl short);
+    }
+
+whole_body : (at : At) → (i : InitialAhead at) → i.initial.1 ≤ length i.ahead.rest
+    → VersionAhead at.order (take i.initial.1 i.ahead.rest) → FrameAhead at ⊎ NoFrame at
+unfolding frame_of prefix_of
+whole_body at i le v =
+    let count = i.initial.1 in
+    let body = take count i.ahead.rest in
+    let next = past count i.ahead in
+    let prefix = prefix_of i.initial.0 i.ahead.place at.order body v in
+    let r : ReadsPrefix prefix at next = prefix_read at i.ahead next i.initial body prefix i.read (body_read i.ahead count le)
+    refl refl refl v.small v.joined in
+    elim (cases_eq v.version 5) [
+      | inl five ↦
+          let frame = frame_of at.place i.initial body in
+          let size : frame.length ≡ length body = sym (length-take-le count i.ahead.rest le) in
+          inl (record {
+            frame = frame;
+            next = next;
+            offset_is = refl;
+            read = reads_frame at next prefix frame r five refl refl size;
+          })
+      | inr other ↦
+          let fault : Fault = record { place = i.ahead.place; reason = VersionNotFive v.version } in
+          inr (record { fault = fault; refused = refuses_version at next prefix fault r other refl refl })
+    ]
 
 frame_ahead : (at : At) → AreBytes at.rest → FrameAhead at ⊎ NoFrame at
 frame_ahead at are = elim (initial_ahead at are) [
@@ -247,7 +259,10 @@ frame_ahead at are = elim (initial_ahead at are) [
     | inr le ↦
         let later = bytes_after i.read.spelling i.ahead.rest at.rest i.read.whole are in
         let body = All-take (λ (x : ℕ). x < 256) i.initial.1 i.ahead.rest later in
-        whole_body at i le (version_ahead at.order (take i.initial.1 i.ahead.rest) body)
+        elim (cases_lt (length (take i.initial.1 i.ahead.rest)) 2) [
+          | inl short ↦ inr (short_body at i le short)
+          | inr some ↦ whole_body at i le (version_ahead at.order (take i.initial.1 i.ahead.rest) body some)
+        ]
   ]
   | inr n ↦ inr (no_initial at n)
 ]
