@@ -6,7 +6,7 @@ use Rattle.lnt_io.specs.declared.status.Status.TheVariants.{Done, No}
 use Rattle.lnt_spans.specs.declared.position.Position.{Position}
 use Rattle.lnt_records.specs.declared.path_records.version.PathVersion.{PathVersion}
 use Rattle.lnt_records.specs.PathSpans.{PathAnswer}
-use Rattle.lnt_compare.specs.Canonical.{HasOperationIndex}
+use Rattle.lnt_writing.specs.Canonical.{HasOperationIndex}
 use Rattle.lnt_table.specs.Written.{BeginsPaths}
 use Rattle.lnt_answers.specs.PathTables.{BeginsPrintedTable, operation_line}
 

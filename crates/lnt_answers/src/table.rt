@@ -8,12 +8,12 @@ ghost use Rattle.lnt_table.specs.Written.{BeginsTableOfUnits, IsTableOfUnits};
 ghost use Rattle.lnt_lines.specs.Indexed.{OfUnits};
 ghost use Rattle.lnt_answers.specs.PathTables.{BeginsPrintedTable, IsPrintedTable};
 
-use lnt_compare::PathTable;
 use lnt_io::{IoStop, Status, print_line};
 use lnt_lines::Index;
 use lnt_records::PathVersion;
 use lnt_spans::Version;
 use lnt_table::{OperationLine, write_index, write_paths};
+use lnt_writing::PathTable;
 use std::alloc::Global;
 use std::io::Write;
 

@@ -15,7 +15,6 @@ use Rattle.lnt_records.specs.PathSpans.{path_answer, PathAnswer, path_span_answe
 use Rattle.lnt_spans.specs.AnyStretches.{Stretch}
 use Rattle.lnt_records.specs.PathTables.{said_answer}
 use Rattle.lnt_compare.specs.Differing.{HasFoundStretchesByPath}
-use Rattle.lnt_compare.proofs.JoiningLemmas.{made, make}
 use Rattle.lnt_spans.proofs.AnsweringLaws as table
 use Rattle.lnt_compare.proofs.TableRunLemmas.{path_after}
 
@@ -30,7 +29,14 @@ same_lists same (x ∷ a) (y ∷ b) = elim (same x y) [
   | inl first ↦ elim (same_lists same a b) [ inr other ↦ inr (λ e. other (cc e)) | inl rest ↦ inl cc ]
 ]
 
-same_path_answers : (a b : PathAnswer) → (a ≡ b) ⊎ (a ≢ b)
+make : List ℕ → ℕ → Option ℕ → PathAnswer
+make path line column = record { path = path; line = line; column = column }
+
+made : (a : PathAnswer) → make a.path a.line a.column ≡ a
+unfolding make
+made a = refl
+
+pub same_path_answers : (a b : PathAnswer) → (a ≡ b) ⊎ (a ≢ b)
 same_path_answers a b = elim (same_lists cases_eq a.path b.path) [
   | inr other ↦ inr (λ e. other (ap (λ (answer : PathAnswer). answer.path) e))
   | inl path ↦ elim (cases_eq a.line b.line) [

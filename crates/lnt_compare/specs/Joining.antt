@@ -1,12 +1,14 @@
--- Spans joined by what a table contains of their answers, which `tell` gives; a joined span keeps the answer of its first part. No public
--- contract speaks of it.
-use Rattle.std.specs.Prelude.{◌≡◌, ◌≢◌, ◌⊎◌, List, [], ◌∷◌, ◌++◌, Option, Some, None}
+-- Spans joined by what a table contains of their answers, which `tell` gives; a joined span keeps the answer of its first part. Of public
+-- contracts only those of `Joined` speak of it.
+use Rattle.std.specs.Prelude.{◌≡◌, ℕ, List, [], ◌∷◌, ◌++◌, Option, Some, None}
 use Rattle.lnt_spans.specs.declared.answer.Answer.{Answer}
 use Rattle.lnt_spans.specs.declared.position.Position.{Position}
 use Rattle.lnt_spans.specs.declared.span.Span.{Span}
-use Rattle.lnt_spans.specs.Spans.{IsOfInstructions, AreInOrder}
+use Rattle.lnt_spans.specs.Remaining.{count_ahead, SpansAreLeft}
+use Rattle.lnt_spans.specs.Spans.{AreInOrder}
 use Rattle.lnt_spans.specs.Merged.{answer_told}
 use Rattle.lnt_records.specs.PathSpans.{PathAnswer, PathSpan}
+use Rattle.lnt_compare.specs.declared.joined.Joined.{Joined}
 
 -- a span by path
 abbrev pub tell_span : (Answer → PathAnswer) → Span → PathSpan
@@ -42,6 +44,14 @@ pub record AreJoinedAs {X : Type 0} (tell : Answer → X) (list joined : List Sp
       → answer_told tell (prefix ++ joined) p ≡ answer_told tell (prefix ++ list) p
   pub begin : BeginAlike tell list joined
 
+-- the spans that are still to be joined
+abbrev pub AreToJoin : {S : Type 0} → (S → List Span → Type 0) → Joined S → List Span → Type 0
+AreToJoin to_come joined = SpansAreLeft to_come joined.next joined.spans
+
+-- an upper bound on their number, if the function bounds the spans that are left in the source
+abbrev pub count_to_join : {S : Type 0} → (S → ℕ) → Joined S → ℕ
+count_to_join left joined = count_ahead joined.next (left joined.spans)
+
 -- No span is to come; or this one is the first of the list, joined with all those after it that extend it, and the others are to come.
 abbrev pub GivesJoined : {X : Type 0} → (Answer → X) → List Span → (List Span → Type 0) → Option Span → Type 0
 GivesJoined tell list left None = (list ≡ []) × left []
@@ -55,22 +65,3 @@ pub record LeaveOff {X : Type 0} (tell : Answer → X) (ToCome : List Span → T
   pub order : AreInOrder (given ++ rest)
   pub same : (p : Position) → answer_told tell (given ++ rest) p ≡ answer_told tell list p
   pub apart : AreApart tell given rest
-
--- any spans may be to come
-abbrev pub Any : List Span → Type 0
-Any rest = Unit {0}
-
--- The spans are in order and told as those of the list are, and none is extended by the one after it.
-pub record AreJoined {X : Type 0} (tell : Answer → X) (list joined : List Span) : Type 0 where
-  pub order : AreInOrder joined
-  pub same : (p : Position) → answer_told tell joined p ≡ answer_told tell list p
-  pub apart : AreApart tell joined []
-
--- ---- borders
-
--- the first position at which spans in order begin or end with an operation index other than 0
-abbrev pub IsFirstOperation : Position → List Span → Type 0
-IsFirstOperation p [] = ⊥
-IsFirstOperation p (span ∷ spans) = ((span.low.op ≢ 0) × (p ≡ span.low))
-    ⊎ ((span.low.op ≡ 0) × (span.high.op ≢ 0) × (p ≡ span.high))
-    ⊎ (IsOfInstructions span × IsFirstOperation p spans)

@@ -1,4 +1,3 @@
-pub mod Canonical
 pub mod Comparisons
 pub mod Differing
 pub mod Held

@@ -1,46 +1,62 @@
 //! Joins spans, as they come, where they touch and a table contains the same of their answers.
 ghost use Rattle.std.specs.Prelude.{◌<◌, List, IfOk, IfSome, OnOk, MatchBool};
 ghost use Rattle.lnt_spans.specs.declared.span.Span as spec;
-ghost use Rattle.lnt_spans.specs.Remaining.{count_ahead, SpansAreLeft};
 ghost use Rattle.std.specs.List.{cons_option};
-ghost use Rattle.lnt_compare.specs.Joining.{GivesJoined, IsExtendedBy};
+ghost use Rattle.lnt_compare.specs.Joining.{AreToJoin, GivesJoined, IsExtendedBy, count_to_join};
 
-use crate::line_telling::LineTelling;
 use crate::remaining::Remaining;
-use lnt_spans::{Span, SpanSource};
+use lnt_spans::{Answer, Span, SpanSource, Telling};
 use std::alloc::AllocError;
 
-// A source of spans, with its next span already taken out. They are given joined, each with the answer of its first part.
+/// How much of an answer a table contains, and whether it contains the same of two.
+pub trait Joins: Telling {
+    ghost use Rattle.std.specs.Prelude.{◌≡◌, ◌≢◌, IfOk, OnOk};
+    ghost use Rattle.std.specs.Bool.{MatchBool};
+
+    /// Whether a table contains the same of two answers, as `alike` says. Fails only if memory runs out.
+    fn joins(
+        &self,
+        memory: &mut Self::Memory,
+        one: &Answer,
+        other: &Answer,
+    ) -> Result<bool, AllocError>
+        requires { Self.is_sound self.now memory.old }
+        ensures sound { OnOk result (Self.is_sound self.now memory.new) }
+        ensures alike { IfOk result (λ alike. MatchBool alike (Self.tell self.now one.now ≡ Self.tell self.now other.now)
+            (Self.tell self.now one.now ≢ Self.tell self.now other.now)) };
+}
+
+/// A source of spans, with its next span already taken out. They are given joined, each with the answer of its first part.
 #[derive(Drop)]
-pub(crate) struct Joined<S> {
+pub struct Joined<S> {
     next: Option<Span>,
     spans: S,
 }
 
 impl<S: SpanSource> Joined<S> {
-    // Takes the first span out of the source.
+    /// Takes the first span out of the source.
     #[inline(always)]
-    pub(crate) fn of(mut spans: S) -> Joined<S>
-        ensures { (list : List spec.Span) → S.to_come spans list → SpansAreLeft S.to_come result.next result.spans list }
+    pub fn of(mut spans: S) -> Joined<S>
+        ensures { (list : List spec.Span) → S.to_come spans list → AreToJoin S.to_come result list }
     {
         let next = spans.next_span();
         Joined { next, spans }
     }
 
-    // Gives the next joined span: the next span with all those that extend it. It is inlined, and `memory` stands apart, so that the
-    // walk over the spans keeps its state in registers.
+    /// Gives the next joined span: the next span with all those that extend it. Fails only if memory runs out.
+    ///
+    /// It is inlined, and `memory` stands apart, so that the walk over the spans keeps its state in registers.
     #[inline(always)]
-    pub(crate) fn next_joined<T: LineTelling>(
+    pub fn next_joined<T: Joins>(
         &mut self,
         telling: &T,
         memory: &mut T::Memory,
     ) -> Result<Option<Span>, AllocError>
         requires { T.is_sound telling.now memory.old }
         ensures sound { OnOk result (T.is_sound telling.now memory.new) }
-        ensures left { IfOk result (λ given. (list : List spec.Span) → SpansAreLeft S.to_come self.old.next self.old.spans list
-            → GivesJoined (T.tell telling.now) list (SpansAreLeft S.to_come self.new.next self.new.spans) given) }
-        ensures fewer { IfOk result (λ given. IfSome given
-            (λ _. count_ahead self.new.next (S.left self.new.spans) < count_ahead self.old.next (S.left self.old.spans))) }
+        ensures left { IfOk result (λ given. (list : List spec.Span) → AreToJoin S.to_come self.old list
+            → GivesJoined (T.tell telling.now) list (AreToJoin S.to_come self.new) given) }
+        ensures fewer { IfOk result (λ given. IfSome given (λ _. count_to_join S.left self.new < count_to_join S.left self.old)) }
     {
         let Some(mut last) = self.next.take() else {
             return Ok(None);
@@ -57,7 +73,7 @@ impl<S: SpanSource> Joined<S> {
 
     // Perhaps one span, and after it those that are left, as the source gives them.
     pub(crate) fn remaining(self, first: Option<Span>) -> Remaining<S>
-        ensures { (rest : List spec.Span) → SpansAreLeft S.to_come self.next self.spans rest
+        ensures { (rest : List spec.Span) → AreToJoin S.to_come self rest
             → ⟦<Remaining<S> as SpanSource>⟧.to_come result (cons_option first rest) }
     {
         Remaining::after(first, self.next, self.spans)
@@ -66,7 +82,7 @@ impl<S: SpanSource> Joined<S> {
 
 // Whether the second span begins where the first ends, and a table contains the same of both answers.
 #[inline(always)]
-fn goes_on<T: LineTelling>(
+fn goes_on<T: Joins>(
     telling: &T,
     memory: &mut T::Memory,
     last: &Span,

@@ -1,6 +1,6 @@
-//! Laws of comparisons, and of spans by path. Each is the contract of a function that takes nothing and does nothing.
+//! Laws of comparisons. Each is the contract of a function that takes nothing and does nothing.
 ghost use Rattle.lnt_compare.specs.Comparisons.{tables_by_number};
-ghost use Rattle.lnt_compare.specs.Laws.{FirstStretchesBegin, OneCanonicalOfPaths, OneComparison, OneLeastPathDifference};
+ghost use Rattle.lnt_compare.specs.Laws.{FirstStretchesBegin, OneComparison, OneLeastPathDifference};
 ghost use Rattle.lnt_compare.specs.Outcomes.{tables_by_path};
 
 /// For given bytes, and what a section answers, a comparison at all positions has only one possible result: that both answer the
@@ -9,13 +9,6 @@ ghost use Rattle.lnt_compare.specs.Outcomes.{tables_by_path};
 pub fn one_comparison()
     ensures by_number { OneComparison tables_by_number }
     ensures by_path { OneComparison tables_by_path }
-{}
-
-/// Two canonical lists of spans by path that answer alike at every position are the same list. So there is one shortest
-/// table for each way to answer.
-#[tactic(auto, using(crate::proofs::UniqueLemmas::one_path_list))]
-pub fn one_canonical()
-    ensures { OneCanonicalOfPaths }
 {}
 
 /// Two ways to answer have at most one first difference: one position, with one answer of each.

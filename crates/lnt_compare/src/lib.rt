@@ -1,8 +1,6 @@
-//! Compares address tables with the spans of a section, by number and by path, and writes the one shortest table for the spans of
-//! a source.
+//! Compares address tables with the spans of a section, by number and by path.
 #![tactic(auto)]
 
-mod canonical;
 mod comparison;
 mod differing;
 mod gathering;
@@ -17,15 +15,14 @@ mod path_tables;
 mod remaining;
 mod stream;
 mod window;
-mod writing;
 
-pub use canonical::write_canonical;
 pub use comparison::compare_records;
 pub use differing::{Differing, differ_lines, differ_records};
+pub use joined::{Joined, Joins};
 pub use outcome::{Compared, Outcome, TableRead};
 pub use path_tables::{
-    AnswerByPath, DifferenceByPath, DifferencesByPath, HeldSpan, HeldTable, PathTable,
-    compare_by_path, compare_lines_by_path, hold_table, write_by_path, write_instructions_by_path,
+    AnswerByPath, DifferenceByPath, DifferencesByPath, HeldSpan, HeldTable, PathMemory,
+    PathTelling, compare_by_path, compare_lines_by_path, hold_table,
 };
 pub use remaining::Remaining;
 pub use stream::compare_lines;

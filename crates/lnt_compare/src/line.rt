@@ -3,12 +3,23 @@ ghost use Rattle.std.specs.Prelude.{◌≡◌, MatchBool};
 ghost use Rattle.lnt_records.specs.Lines.{IsTextLine};
 ghost use Rattle.lnt_records.specs.Written.{IsOfVersion};
 
+use crate::joined::Joins;
 use crate::line_telling::LineTelling;
 use crate::window::Window;
 use lnt_io::{Source, Stop};
-use lnt_records::{LineRoom, ROOM, TableVersion, put_span};
+use lnt_records::{LineRoom, ROOM, TableVersion};
 use lnt_spans::{Answer, Difference, Found, Merge, Span, SpanSource, Telling, Version};
 use std::alloc::{AllocError, Global};
+
+impl Joins for Version {
+    #[inline(always)]
+    fn joins(&self, memory: &mut (), one: &Answer, other: &Answer) -> Result<bool, AllocError> {
+        match self.alike(memory, one, other) {
+            Ok(alike) => Ok(alike),
+            Err(never) => match never {},
+        }
+    }
+}
 
 impl LineTelling for Version {
     ghost use Rattle.std.specs.Prelude.{List, Option, IfOk};
@@ -38,14 +49,6 @@ impl LineTelling for Version {
     ghost has_line = { λ version span. IsOfVersion version (in_version version span.answer) };
 
     #[inline(always)]
-    fn joins(&self, memory: &mut (), one: &Answer, other: &Answer) -> Result<bool, AllocError> {
-        match self.alike(memory, one, other) {
-            Ok(alike) => Ok(alike),
-            Err(never) => match never {},
-        }
-    }
-
-    #[inline(always)]
     fn finish<S: SpanSource + Drop>(
         &self,
         merge: Merge<S, Difference>,
@@ -62,18 +65,6 @@ impl LineTelling for Version {
 
     fn header(&self) -> &'static [u8] {
         self.header_line()
-    }
-
-    #[inline(always)]
-    fn put_line(
-        &self,
-        _alloc: Global,
-        _memory: &mut (),
-        room: &mut LineRoom,
-        span: &Span,
-        block: &mut Vec<u8>,
-    ) -> Result<(), AllocError> {
-        put_span(block, room, &span.in_version(*self))
     }
 
     #[inline(always)]

@@ -1,20 +1,20 @@
 //! The lines of spans in tables, by number and by path.
+use crate::joined::Joins;
 use crate::window::Window;
 use lnt_io::{Source, Stop};
 use lnt_records::LineRoom;
-use lnt_spans::{Answer, Found, Merge, Span, SpanSource, Telling};
+use lnt_spans::{Found, Merge, Span, SpanSource};
 use std::alloc::{AllocError, Global};
 
-/// How a table that contains this of an answer is written: a line for each joined span.
+/// How a table that contains this of an answer is compared as text: a line for each joined span.
 ///
 /// Ghost members give the meaning. `Version` and `Spans` are the types of the table's version and of what its lines say, `version` is
 /// that version, and `told` what the line of a span of a section says. `format` and `plain` are such tables and their lines. `has_line`
 /// says that a line can tell the span.
-pub(crate) trait LineTelling: Telling {
-    ghost use Rattle.std.specs.Prelude.{◌≡◌, ◌≢◌, ◌-◌, ◌^◌, ◌<◌, ℕ, List, [], Option, IfOk, IsErrOf, OnOk};
+pub(crate) trait LineTelling: Joins {
+    ghost use Rattle.std.specs.Prelude.{◌≡◌, ◌-◌, ◌^◌, ◌<◌, ℕ, List, [], Option, IfOk, IsErrOf, OnOk};
     ghost use Rattle.std.specs.Bool.{MatchBool};
     ghost use Rattle.lnt_io.specs.Stopping.{CountsFailure};
-    ghost use Rattle.lnt_records.specs.Progress.{AddsLine};
     ghost use Rattle.lnt_records.specs.Table.{TableFormat};
     ghost use Rattle.lnt_records.specs.Written.{LineFormat};
     ghost use Rattle.lnt_spans.specs.Merged.{AreFound, HasMerged, answer_told};
@@ -36,18 +36,6 @@ pub(crate) trait LineTelling: Telling {
 
     ghost has_line: { Self → SpecSpan → Type 0 };
 
-    /// Whether a table contains the same of two answers, as `alike` says. Fails only if memory runs out.
-    fn joins(
-        &self,
-        memory: &mut Self::Memory,
-        one: &Answer,
-        other: &Answer,
-    ) -> Result<bool, AllocError>
-        requires { Self.is_sound self.now memory.old }
-        ensures sound { OnOk result (Self.is_sound self.now memory.new) }
-        ensures alike { IfOk result (λ alike. MatchBool alike (Self.tell self.now one.now ≡ Self.tell self.now other.now)
-            (Self.tell self.now one.now ≢ Self.tell self.now other.now)) };
-
     /// What a comparison found, as `Merge::finish` gives it. Fails only if memory runs out.
     fn finish<S: SpanSource + Drop>(
         &self,
@@ -60,20 +48,6 @@ pub(crate) trait LineTelling: Telling {
     /// The header as a line.
     fn header(&self) -> &'static [u8]
         ensures { result.now ≡ plain.line (plain.names (version self.now)) };
-
-    /// Adds the line of this span, of which parts are written into `room` first.
-    fn put_line(
-        &self,
-        alloc: Global,
-        memory: &mut Self::Memory,
-        room: &mut LineRoom,
-        span: &Span,
-        block: &mut Vec<u8>,
-    ) -> Result<(), AllocError>
-        requires { Self.is_sound self.now memory.old }
-        ensures sound { OnOk result (Self.is_sound self.now memory.new) }
-        ensures added { OnOk result (has_line self.now span.now
-            → AddsLine plain (version self.now) (told self.now span.now) block.old.items block.new.items) };
 
     /// Moves past the line of this span, if it is next and tells the span. It is written into `room` first.
     fn pass_line<T: Source>(

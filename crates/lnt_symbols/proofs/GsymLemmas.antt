@@ -3,7 +3,7 @@ use Rattle.std.proofs.Common.{◌≡◌, ◌∙◌, ◌⊎◌, ℕ, List, Option
 use Rattle.std.specs.Prelude.{Result, Ok, Err}
 use Rattle.std.specs.Io.KnownBytes.{Appends, Keeps}
 use Rattle.std.specs.List.{AllByRecursion}
-use Rattle.lnt_compare.specs.Canonical.{BeginsPathTable, IsCanonicalPathTable}
+use Rattle.lnt_writing.specs.Canonical.{BeginsPathTable, IsCanonicalPathTable}
 use Rattle.lnt_io.specs.declared.status.Status.{Status}
 use Rattle.lnt_io.specs.declared.status.Status.TheVariants.{Done, No}
 use Rattle.lnt_io.specs.Prefixes.{AppendsPrefix}

@@ -11,7 +11,7 @@ use Rattle.std.proofs.lemmas.List.Elements.{All-tail, All-weaker}
 use Rattle.std.proofs.lemmas.List.Folds.{find-append}
 use Rattle.std.proofs.lemmas.List.Sorted.{All-permutation, Contains-permutation}
 use Rattle.std.specs.Io.KnownBytes.{Appends}
-use Rattle.lnt_compare.specs.Canonical.{BeginsPathTable, IsCanonicalPathTable}
+use Rattle.lnt_writing.specs.Canonical.{BeginsPathTable, IsCanonicalPathTable}
 use Rattle.lnt_records.specs.declared.path_records.version.PathVersion.TheVariants.{Four}
 use Rattle.lnt_records.specs.PathSpans.{PathAnswer, spans_by_path}
 use Rattle.lnt_spans.proofs.EachTwoLaws.{each_two_from_pairs, each_two_permutation, EachTwo, find_none, find_only, found, none_found}
@@ -24,7 +24,7 @@ use Rattle.lnt_symbols.specs.BreakpadLines.{LineRecord, Range, RecordSaid}
 use Rattle.lnt_symbols.specs.BreakpadAnswers.{answer_at, FunctionSaid, functions_of, holds, kept, meet, name_in}
 use Rattle.lnt_symbols.specs.Pieces.{AnswerSo, AreRising, HasTable, cut_high, cut_line, cut_low, cut_piece, is_in, piece_answer, piece_span}
 use Rattle.lnt_symbols.specs.Pieces.{pieces_in, pieces_of, PiecesApart}
-use Rattle.lnt_compare.proofs.PathWrittenLaws.{one_path_table}
+use Rattle.lnt_writing.proofs.PathWrittenLaws.{one_path_table}
 use Rattle.lnt_symbols.specs.Laws.{OneTable}
 use Rattle.lnt_symbols.specs.SymbolTables.{answers_in_table, loaded_at}
 use Rattle.lnt_symbols.proofs.CutLemmas.{cut_in, filled, in_table, pieces_apart}

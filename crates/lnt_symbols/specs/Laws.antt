@@ -1,6 +1,6 @@
 -- What the laws of symbol files say.
 use Rattle.std.specs.Prelude.{◌≡◌, ℕ, ◌-◌, ◌^◌, ◌<◌, List}
-use Rattle.lnt_compare.specs.Canonical.{IsCanonicalPathTable}
+use Rattle.lnt_writing.specs.Canonical.{IsCanonicalPathTable}
 use Rattle.lnt_records.specs.declared.path_records.version.PathVersion.TheVariants.{Four}
 use Rattle.lnt_symbols.specs.SymbolTables.{Answers, answers_in_table}
 

@@ -8,7 +8,7 @@ use Rattle.lnt_spans.specs.declared.position.Position.{Position}
 use Rattle.lnt_spans.specs.declared.span.Span.{Span}
 use Rattle.lnt_records.specs.declared.path_records.version.PathVersion.TheVariants.{Four}
 use Rattle.lnt_records.specs.PathSpans.{PathAnswer, whole}
-use Rattle.lnt_compare.specs.Canonical.{IsCanonicalPathTable}
+use Rattle.lnt_writing.specs.Canonical.{IsCanonicalPathTable}
 use Rattle.lnt_symbols.specs.declared.piece.Piece.{Piece}
 use Rattle.lnt_symbols.specs.declared.pieces.Pieces.{Pieces}
 use Rattle.lnt_symbols.specs.declared.pieces.PieceSpans.{PieceSpans}

@@ -7,7 +7,7 @@ use Rattle.lnt_io.specs.declared.status.Status.TheVariants.{Done, No}
 use Rattle.lnt_spans.specs.declared.position.Position.{Position}
 use Rattle.lnt_records.specs.PathSpans.{PathAnswer}
 use Rattle.lnt_records.specs.declared.path_records.version.PathVersion.TheVariants.{Four}
-use Rattle.lnt_compare.specs.Canonical.{BeginsPathTable, IsCanonicalPathTable}
+use Rattle.lnt_writing.specs.Canonical.{BeginsPathTable, IsCanonicalPathTable}
 use Rattle.lnt_gsym.specs.GsymAnswers.{gsym_answer}
 use Rattle.lnt_gsym.specs.GsymFiles.{gsym_of, order_of}
 use Rattle.lnt_wire.specs.declared.format.Order.{Order}

@@ -1,7 +1,7 @@
 //! Prints the table of a GSYM file.
 ghost use Rattle.std.specs.Prelude.{◌≡◌, ◌⊎◌, IfErr, IfOk, OnErr};
 ghost use Rattle.std.specs.Io.KnownBytes.{Keeps};
-ghost use Rattle.lnt_compare.specs.Canonical.{BeginsPathTable};
+ghost use Rattle.lnt_writing.specs.Canonical.{BeginsPathTable};
 ghost use Rattle.lnt_gsym.specs.GsymAnswers.{gsym_answer};
 ghost use Rattle.lnt_gsym.specs.GsymFiles as file;
 ghost use Rattle.lnt_gsym.specs.Spanning.{HasRead};
@@ -12,11 +12,11 @@ ghost use Rattle.lnt_symbols.specs.Pieces.{HasTable};
 ghost use Rattle.lnt_symbols.specs.SymbolTables.{BeginsPrinted, HasPrinted, answers_in_table, gsym_answers};
 
 use crate::fault::SymbolFault;
-use lnt_compare::write_instructions_by_path;
 use lnt_gsym::{Functions, GsymSpans, Names, read_gsym};
 use lnt_io::{IoStop, Status, print_line};
 use lnt_records::PathVersion;
 use lnt_wire::Order;
+use lnt_writing::write_instructions_by_path;
 use std::alloc::Global;
 use std::io::Write;
 

@@ -4,12 +4,12 @@ ghost use Rattle.std.specs.Io.KnownBytes.{Keeps};
 ghost use Rattle.lnt_spans.specs.declared.position.Position as position;
 ghost use Rattle.lnt_records.specs.PathSpans.{PathAnswer};
 ghost use Rattle.lnt_records.specs.declared.path_records.version.PathVersion.TheVariants.{Four};
-ghost use Rattle.lnt_compare.specs.Canonical.{BeginsPathTable};
+ghost use Rattle.lnt_writing.specs.Canonical.{BeginsPathTable};
 ghost use Rattle.lnt_symbols.specs.Pieces.{AnswerSo, HasTable, all_pieces};
 
 use crate::pieces::{PieceSpans, Pieces};
-use lnt_compare::write_instructions_by_path;
 use lnt_records::{PathVersion, Paths, WriteStop};
+use lnt_writing::write_instructions_by_path;
 use std::alloc::{AllocError, Global};
 use std::io::Write;
 

@@ -18,7 +18,7 @@ use Rattle.lnt_records.specs.declared.path_records.version.PathVersion.{PathVers
 use Rattle.lnt_records.specs.declared.path_records.version.PathVersion.TheVariants.{Three, Four}
 use Rattle.lnt_records.specs.PathTables as pathed
 use Rattle.lnt_records.specs.PathTables.{path_column_names}
-use Rattle.lnt_compare.specs.Canonical.{IsCanonicalPathTable}
+use Rattle.lnt_writing.specs.Canonical.{IsCanonicalPathTable}
 use Rattle.lnt_lines.specs.declared.options.Options.{Options}
 use Rattle.lnt_lines.specs.Good.{IsGood, selected}
 use Rattle.lnt_lines.specs.Laws.{GoodHasNoFlaw}

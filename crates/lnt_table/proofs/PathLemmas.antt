@@ -2,13 +2,13 @@
 use Rattle.std.proofs.Common.{◌≡◌, ◌∙◌, inl, inr, ℕ, List, Option}
 use Rattle.std.specs.Io.KnownBytes.{Keeps}
 use Rattle.std.specs.List.{AllByRecursion}
-use Rattle.lnt_compare.specs.declared.path_tables.write.PathTable.{PathTable}
-use Rattle.lnt_compare.specs.declared.path_tables.write.PathTable.TheVariants.{OperationIndex, Written}
+use Rattle.lnt_writing.specs.declared.path_tables.PathTable.{PathTable}
+use Rattle.lnt_writing.specs.declared.path_tables.PathTable.TheVariants.{OperationIndex, Written}
 use Rattle.lnt_records.specs.declared.path_records.version.PathVersion.{PathVersion}
 use Rattle.lnt_compare.specs.PathStretches.{IsPathSpanOfInstructions, IsLeastOperation}
 use Rattle.lnt_records.specs.PathSpans.{PathAnswer, spans_by_path, AreCanonicalOf, PathSpan}
-use Rattle.lnt_compare.specs.Canonical.{BeginsPathTable, HasBecome, IsCanonicalPathTable}
-use Rattle.lnt_compare.proofs.PathWrittenLaws.{no_operation_or_least, whole_or_none}
+use Rattle.lnt_writing.specs.Canonical.{BeginsPathTable, HasBecome, IsCanonicalPathTable}
+use Rattle.lnt_writing.proofs.PathWrittenLaws.{no_operation_or_least, whole_or_none}
 use Rattle.lnt_spans.specs.declared.position.Position.{Position}
 use Rattle.lnt_spans.specs.declared.span.Span.{Span}
 use Rattle.lnt_spans.specs.Spans.{FitSpans, AreInOrder}

@@ -23,7 +23,7 @@ use Rattle.lnt_records.specs.PathTables.{by_path}
 use Rattle.lnt_records.specs.declared.path_records.version.PathVersion.{PathVersion}
 use Rattle.lnt_records.specs.PathSpans.{PathAnswer, path_answer}
 use Rattle.lnt_compare.specs.PathStretches.{stretch_of}
-use Rattle.lnt_compare.specs.Canonical.{IsCanonicalPathTable}
+use Rattle.lnt_writing.specs.Canonical.{IsCanonicalPathTable}
 use Rattle.lnt_table.specs.Verdicts.{Checked, Verdict}
 use Rattle.lnt_table.specs.declared.kinds.OfKind.TheVariants.{Numbered, ByPath}
 use Rattle.lnt_table.specs.AnyVersion.{IsTrueCheck, IsTrueWithin}

@@ -22,7 +22,7 @@ pub use Rattle.lnt_lines.specs.Indexed
 pub use Rattle.lnt_lines.specs.Nos
 pub use Rattle.lnt_sequences.specs.Sequences
 -- and of tables: their records, their spans, and what differs
-pub use Rattle.lnt_compare.specs.Canonical
+pub use Rattle.lnt_writing.specs.Canonical
 pub use Rattle.lnt_compare.specs.Comparisons
 pub use Rattle.lnt_compare.specs.Differing
 pub use Rattle.lnt_compare.specs.Held

@@ -7,10 +7,10 @@ use Rattle.lnt_spans.specs.declared.span.Span.{Span}
 use Rattle.lnt_spans.specs.Spans.{IsCanonical, span_answer, version_answer}
 use Rattle.lnt_sequences.specs.Sequences.{Selection}
 use Rattle.lnt_records.specs.Written.{IsWrittenTable}
-use Rattle.lnt_compare.specs.declared.path_tables.write.PathTable.TheVariants.{OperationIndex}
+use Rattle.lnt_writing.specs.declared.path_tables.PathTable.TheVariants.{OperationIndex}
 use Rattle.lnt_records.specs.declared.path_records.version.PathVersion.{PathVersion}
 use Rattle.lnt_records.specs.PathSpans.{PathAnswer}
-use Rattle.lnt_compare.specs.Canonical.{HasBecome, IsCanonicalPathTable}
+use Rattle.lnt_writing.specs.Canonical.{HasBecome, IsCanonicalPathTable}
 use Rattle.lnt_table.specs.Headline.{told_answer}
 
 -- The bytes are a table of this version, on plain lines, of the canonical spans that answer as the section's spans do, in

@@ -61,7 +61,7 @@ pub use kept::{ByNumber, ByPath, EndedDifference, KeptStretches};
 pub use wrong::WrongStretches;
 
 // Writing.
-pub use lnt_compare::PathTable;
 pub use lnt_records::{PathVersion, Paths, WriteStop};
+pub use lnt_writing::PathTable;
 pub use paths::{IndexPaths, write_paths};
 pub use write::{write_index, write_table};

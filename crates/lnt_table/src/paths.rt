@@ -1,13 +1,13 @@
 //! Writes the table by path of a section's units.
 ghost use Rattle.std.specs.Prelude.{◌≡◌, IfOk, OnErr};
-ghost use Rattle.lnt_compare.specs.Canonical.{HasBecome};
+ghost use Rattle.lnt_writing.specs.Canonical.{HasBecome};
 ghost use Rattle.lnt_lines.specs.Indexed.{OfUnits};
 ghost use Rattle.lnt_table.specs.Headline.{indexed_path, told_path};
 ghost use Rattle.lnt_table.specs.Written.{BeginsPaths};
 
-use lnt_compare::{PathTable, write_by_path, write_instructions_by_path};
 use lnt_lines::Index;
 use lnt_records::{PathVersion, Paths, WriteStop};
+use lnt_writing::{PathTable, write_by_path, write_instructions_by_path};
 use std::alloc::{AllocError, Global};
 use std::io::Write;
 

@@ -1,14 +1,14 @@
 //! Writes the table of a section's lines.
 ghost use Rattle.std.specs.Prelude.{◌⊎◌, ℕ, List, OnErr, OnOk};
 ghost use Rattle.std.specs.Io.KnownBytes.{Appends, Keeps};
-ghost use Rattle.lnt_compare.specs.Canonical.{BeginsCanonicalTable};
+ghost use Rattle.lnt_writing.specs.Canonical.{BeginsCanonicalTable};
 ghost use Rattle.lnt_lines.specs.Indexed.{OfUnits};
 ghost use Rattle.lnt_table.specs.Written.{BeginsTableOfUnits, IsTableOfLines, IsTableOfUnits};
 
-use lnt_compare::write_canonical;
 use lnt_lines::{Index, Lines};
 use lnt_records::{WriteStop, write_spans};
 use lnt_spans::Version;
+use lnt_writing::write_canonical;
 use std::alloc::Global;
 use std::io::Write;
 

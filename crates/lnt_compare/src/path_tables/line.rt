@@ -4,16 +4,29 @@ ghost use Rattle.lnt_spans.specs.Spans.{IsOfInstructions};
 ghost use Rattle.lnt_records.specs.PathSpans.{path_answer};
 ghost use Rattle.lnt_records.specs.PathLines.{IsSpanLine, path_field};
 
+use crate::joined::Joins;
 use crate::line_telling::LineTelling;
 use crate::path_tables::answer::DifferenceByPath;
 use crate::path_tables::telling::{PathMemory, PathTelling};
 use crate::window::Window;
 use lnt_io::{Source, Stop};
 use lnt_records::{
-    LineRoom, PathVersion, Paths, ROOM, TableVersion, addresses_before, place_before, put_line,
+    LineRoom, PathVersion, Paths, ROOM, TableVersion, addresses_before, place_before,
 };
 use lnt_spans::{Answer, Found, Merge, Span, SpanSource, Telling};
 use std::alloc::{AllocError, Global};
+
+impl<'p, 'r, P: Paths> Joins for PathTelling<'p, 'r, P> {
+    #[inline(always)]
+    fn joins(
+        &self,
+        memory: &mut PathMemory,
+        one: &Answer,
+        other: &Answer,
+    ) -> Result<bool, AllocError> {
+        self.alike(memory, one, other)
+    }
+}
 
 impl<'p, 'r, P: Paths> LineTelling for PathTelling<'p, 'r, P> {
     ghost use Rattle.std.specs.Prelude.{List, Option, IfOk};
@@ -43,16 +56,6 @@ impl<'p, 'r, P: Paths> LineTelling for PathTelling<'p, 'r, P> {
     ghost has_line = { λ s. IsOfInstructions };
 
     #[inline(always)]
-    fn joins(
-        &self,
-        memory: &mut PathMemory,
-        one: &Answer,
-        other: &Answer,
-    ) -> Result<bool, AllocError> {
-        self.alike(memory, one, other)
-    }
-
-    #[inline(always)]
     fn finish<S: SpanSource + Drop>(
         &self,
         merge: Merge<S, DifferenceByPath>,
@@ -66,26 +69,6 @@ impl<'p, 'r, P: Paths> LineTelling for PathTelling<'p, 'r, P> {
 
     fn header(&self) -> &'static [u8] {
         self.version.header_line()
-    }
-
-    fn put_line(
-        &self,
-        alloc: Global,
-        memory: &mut PathMemory,
-        room: &mut LineRoom,
-        span: &Span,
-        block: &mut Vec<u8>,
-    ) -> Result<(), AllocError> {
-        let fields = &mut memory.fields;
-        put_line(
-            alloc,
-            self.paths,
-            self.version,
-            fields,
-            &mut room.room,
-            span,
-            block,
-        )
     }
 
     #[inline(always)]

@@ -19,16 +19,17 @@ const SLOTS: u64 = 4096;
 // The number of bytes of the longest path that is kept, so that all of them together take 2 MiB at most.
 const LONGEST: usize = 512;
 
-// What is remembered of the paths of files.
+/// What is remembered of the paths of files.
 #[derive(Drop)]
-pub(crate) struct PathMemory {
+pub struct PathMemory {
     known: FileTexts,
-    pub(crate) fields: PathFields,
+    /// The paths as they stand in lines.
+    pub fields: PathFields,
 }
 
 impl PathMemory {
-    // Nothing is remembered yet.
-    pub(crate) fn new(alloc: Global) -> Result<PathMemory, AllocError>
+    /// Nothing is remembered yet. Fails only if memory runs out.
+    pub fn new(alloc: Global) -> Result<PathMemory, AllocError>
         ensures { IfOk result (λ memory. (path : ℕ → ℕ → List ℕ) → IsRemembered path memory) }
     {
         let known = FileTexts::new(alloc, SLOTS, LONGEST)?;
@@ -37,13 +38,17 @@ impl PathMemory {
     }
 }
 
-// What a table by path of this version contains, if these are the paths of files.
+/// What a table by path of this version contains, if these are the paths of files.
 #[derive(Drop)]
-pub(crate) struct PathTelling<'p, 'r, P> {
-    pub(crate) alloc: Global,
-    pub(crate) paths: &'p P,
-    pub(crate) version: PathVersion,
-    pub(crate) held: PhantomData<&'r [u8]>,
+pub struct PathTelling<'p, 'r, P> {
+    /// Where paths are kept.
+    pub alloc: Global,
+    /// The paths of files.
+    pub paths: &'p P,
+    /// The version of the table.
+    pub version: PathVersion,
+    /// How long the paths of its records are borrowed.
+    pub held: PhantomData<&'r [u8]>,
 }
 
 impl<'p, 'r, P: Paths> Telling for PathTelling<'p, 'r, P> {

@@ -5,7 +5,7 @@ ghost use Rattle.lnt_io.specs.IoStops.{IsPrinting};
 ghost use Rattle.lnt_io.specs.Stopping.{CountsFailure, IsTooLongOn};
 ghost use Rattle.lnt_io.specs.declared.status.Status.TheVariants.{Done};
 ghost use Rattle.lnt_records.specs.declared.path_records.version.PathVersion.TheVariants.{Four};
-ghost use Rattle.lnt_compare.specs.Canonical.{BeginsPathTable};
+ghost use Rattle.lnt_writing.specs.Canonical.{BeginsPathTable};
 ghost use Rattle.lnt_symbols.specs.BreakpadAnswers.{answer_at};
 ghost use Rattle.lnt_symbols.specs.BreakpadLines.{RecordSaid};
 ghost use Rattle.lnt_symbols.specs.Pieces.{HasTable};

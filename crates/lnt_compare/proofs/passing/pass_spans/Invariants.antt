@@ -1,9 +1,8 @@
 use Rattle.std.specs.Prelude.{◌≡◌, ℕ, List}
 use Rattle.lnt_spans.specs.declared.span.Span.{Span}
-use Rattle.lnt_spans.specs.Remaining.{count_ahead, SpansAreLeft}
 use Rattle.lnt_spans.specs.Partial.{addresses_of}
 use Rattle.lnt_spans.specs.Spans.{AreInOrder}
-use Rattle.lnt_compare.specs.Joining.{LeaveOff}
+use Rattle.lnt_compare.specs.Joining.{AreToJoin, LeaveOff, count_to_join}
 use Rattle.lnt_compare.specs.Passing.{AreLinesOf, Passes}
 use Rattle.lnt_compare.proofs.passing.pass_spans.Given as goal
 
@@ -15,9 +14,9 @@ invariant-loop-joined g l = (text : List ℕ) × (table : List Span)
     × AreLinesOf g.L.LineTelling.format g.L.LineTelling.plain (g.L.LineTelling.told l.telling) (g.L.LineTelling.version l.telling) text
     table l.count l.end
     × ((list : List Span) → g.S.SpanSource.to_come l.fn.spans list → AreInOrder list
-    → LeaveOff (g.L.Telling.tell l.telling) (SpansAreLeft g.S.SpanSource.to_come l.joined.next l.joined.spans) list table
+    → LeaveOff (g.L.Telling.tell l.telling) (AreToJoin g.S.SpanSource.to_come l.joined) list table
     × (l.answered ≡ addresses_of table))
     × (g.T.Source.name l.source ≡ g.T.Source.name l.initial.source)
 
 abbrev pub decreases-loop-joined : goal.decreases-loop-joined
-decreases-loop-joined g l = count_ahead l.joined.next (g.S.SpanSource.left l.joined.spans)
+decreases-loop-joined g l = count_to_join g.S.SpanSource.left l.joined

@@ -1,4 +1,4 @@
-use Rattle.lnt_compare.proofs.PathWrittenLaws.{one_path_table}
+use Rattle.lnt_writing.proofs.PathWrittenLaws.{one_path_table}
 use Rattle.lnt_table.proofs.OneWrittenLemmas.{one_of_units}
 use Rattle.lnt_table.proofs.laws.one_written.Goals as goal
 

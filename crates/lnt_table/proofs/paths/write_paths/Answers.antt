@@ -1,6 +1,6 @@
 use Rattle.std.proofs.Common.{◌∙◌, sym}
 use Rattle.std.proofs.lemmas.Result.{IfOk-weaker, on_err_weaker}
-use Rattle.lnt_compare.specs.declared.path_tables.write.PathTable.TheVariants.{Written}
+use Rattle.lnt_writing.specs.declared.path_tables.PathTable.TheVariants.{Written}
 use Rattle.lnt_records.specs.PathSpans.{spans_by_path}
 use Rattle.lnt_table.specs.Headline.{indexed_path, told_path}
 use Rattle.lnt_table.proofs.PathLemmas.{becomes_of_same, paths_begun}

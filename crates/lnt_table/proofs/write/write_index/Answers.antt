@@ -1,6 +1,6 @@
 use Rattle.std.proofs.Common.{◌∙◌}
 use Rattle.std.proofs.lemmas.Result.{on_err_weaker, on_ok_weaker}
-use Rattle.lnt_compare.proofs.WrittenLaws.{whole_canonical}
+use Rattle.lnt_writing.proofs.WrittenLaws.{whole_canonical}
 use Rattle.lnt_table.proofs.CheckLemmas.{same_in_version}
 use Rattle.lnt_table.proofs.write.write_index.Goals as goal
 

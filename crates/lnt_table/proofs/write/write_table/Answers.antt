@@ -2,7 +2,7 @@ use Rattle.std.proofs.Common.{List, subst, inr}
 use Rattle.std.proofs.lemmas.Result.{on_err_weaker}
 use Rattle.lnt_spans.specs.declared.span.Span.{Span}
 use Rattle.lnt_records.specs.Written.{BeginsTable}
-use Rattle.lnt_compare.proofs.BegunLaws.{canonical_begins}
+use Rattle.lnt_writing.proofs.BegunLaws.{canonical_begins}
 use Rattle.lnt_table.proofs.WriteLemmas.{told_in_version}
 use Rattle.lnt_table.proofs.write.write_table.Goals as goal
 

@@ -1,0 +1,9 @@
+pub mod BegunLaws
+pub mod BorderLemmas
+pub mod CanonicalLemmas
+pub mod JoinedLemmas
+pub mod PathWriteLemmas
+pub mod PathWrittenLaws
+pub mod UniqueLemmas
+pub mod WritingLemmas
+pub mod WrittenLaws
