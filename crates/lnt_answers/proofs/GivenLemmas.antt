@@ -19,8 +19,8 @@ use Rattle.lnt_table.specs.AnyCopy.{AreAllWrong, AreFirstWrong, EndsWrong}
 use Rattle.lnt_table.specs.WrongStretches.{HasFoundWrong}
 use Rattle.lnt_table.specs.declared.kept.EndedDifference.{EndedDifference}
 use Rattle.lnt_table.specs.declared.wrong.WrongStretches.{WrongStretches}
-use Rattle.lnt_table.specs.declared.within.Coverage.{Coverage}
-use Rattle.lnt_table.specs.declared.within.Scope.{Scope}
+use Rattle.lnt_spans.specs.declared.scope.Coverage.{Coverage}
+use Rattle.lnt_spans.specs.declared.scope.Scope.{Scope}
 use Rattle.lnt_answers.specs.PrintedStretches.{IsEndTold}
 use Rattle.lnt_answers.specs.Stepping.{AreBegun, AreEndsTold, ArePrinted, CopyCase, HasGivenWrong, ToldDifference, counts_in}
 use Rattle.lnt_answers.specs.Stepping.{differences_of, if_none, said_by, told_in, told_lines}

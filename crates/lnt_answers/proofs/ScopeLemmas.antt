@@ -21,9 +21,9 @@ use Rattle.lnt_table.specs.AnyCopy.{AreAllWrong, AreFirstWrong, EndsWrong}
 use Rattle.lnt_table.specs.Judged.{told_right}
 use Rattle.lnt_table.specs.declared.kinds.OfKind.TheVariants.{Numbered}
 use Rattle.lnt_table.specs.declared.verdict.Verdict.TheVariants.{Yes}
-use Rattle.lnt_table.specs.declared.within.Coverage.{Coverage}
-use Rattle.lnt_table.specs.declared.within.Scope.{Scope}
-use Rattle.lnt_table.specs.declared.within.Scope.TheVariants.{All, Answered}
+use Rattle.lnt_spans.specs.declared.scope.Coverage.{Coverage}
+use Rattle.lnt_spans.specs.declared.scope.Scope.{Scope}
+use Rattle.lnt_spans.specs.declared.scope.Scope.TheVariants.{All, Answered}
 use Rattle.lnt_answers.specs.declared.report.Report.{Report}
 use Rattle.lnt_answers.specs.PrintedStretches.{AreAllIn, AreFirstPrinted, AreStretchesPrinted, EndsIn, HaveEnds, IsEndTold, ToldStretch}
 use Rattle.lnt_answers.specs.PrintedStretches.{answer_if_none, lines_or, stretches_status, told_with}

@@ -14,8 +14,8 @@ use Rattle.lnt_table.specs.declared.kinds.OfKind.TheVariants.{Numbered}
 use Rattle.lnt_table.specs.declared.verdict.Verdict.TheVariants.{Yes}
 use Rattle.lnt_table.specs.declared.within.CheckedWithin.{CheckedWithin}
 use Rattle.lnt_table.specs.declared.within.CheckedWithin.TheVariants as within
-use Rattle.lnt_table.specs.declared.within.Scope.{Scope}
-use Rattle.lnt_table.specs.declared.within.Scope.TheVariants.{All, Answered}
+use Rattle.lnt_spans.specs.declared.scope.Scope.{Scope}
+use Rattle.lnt_spans.specs.declared.scope.Scope.TheVariants.{All, Answered}
 use Rattle.lnt_table.specs.FaultTexts.{path_stretch_text, stretch_text, table_no_text}
 use Rattle.lnt_answers.specs.declared.report.Report.{Report}
 use Rattle.lnt_answers.specs.Verdicts.{checked_line, checked_status}

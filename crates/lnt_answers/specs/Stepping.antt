@@ -13,9 +13,9 @@ use Rattle.lnt_io.specs.declared.status.Status.{Status}
 use Rattle.lnt_io.specs.declared.status.Status.TheVariants.{No}
 use Rattle.lnt_table.specs.declared.kinds.OfKind.TheVariants.{Numbered}
 use Rattle.lnt_table.specs.declared.verdict.Verdict.TheVariants.{Yes}
-use Rattle.lnt_table.specs.declared.within.Coverage.{Coverage}
-use Rattle.lnt_table.specs.declared.within.Scope.{Scope}
-use Rattle.lnt_table.specs.declared.within.Scope.TheVariants.{All, Answered}
+use Rattle.lnt_spans.specs.declared.scope.Coverage.{Coverage}
+use Rattle.lnt_spans.specs.declared.scope.Scope.{Scope}
+use Rattle.lnt_spans.specs.declared.scope.Scope.TheVariants.{All, Answered}
 use Rattle.lnt_table.specs.declared.wrong.WrongStretches.{WrongStretches}
 use Rattle.lnt_table.specs.Judged.{told_right}
 use Rattle.lnt_table.specs.WrongStretches.{HasFoundWrong}

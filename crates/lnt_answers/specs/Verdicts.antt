@@ -7,7 +7,7 @@ use Rattle.lnt_table.specs.declared.kinds.OfKind.TheVariants.{Numbered, ByPath}
 use Rattle.lnt_table.specs.declared.verdict.Verdict.TheVariants.{Yes, No}
 use Rattle.lnt_table.specs.declared.within.CheckedWithin.{CheckedWithin}
 use Rattle.lnt_table.specs.declared.within.CheckedWithin.TheVariants.{Checked as Printed, Covered}
-use Rattle.lnt_table.specs.declared.within.Coverage.{Coverage}
+use Rattle.lnt_spans.specs.declared.scope.Coverage.{Coverage}
 use Rattle.lnt_table.specs.FaultTexts.{within_text}
 
 -- ---- how much a table answers

@@ -23,7 +23,7 @@ use std::io::Write;
 pub(crate) trait StretchSource<D> {
     ghost use Rattle.std.specs.Prelude.{◌≡◌, ◌<◌, ℕ, List, [], ◌∷◌, ◌++◌, IfOk, IfSome, MatchOption};
     ghost use Rattle.lnt_spans.specs.declared.position.Position.{Position as SpecPosition};
-    ghost use Rattle.lnt_table.specs.declared.within.Coverage.{Coverage as SpecCoverage};
+    ghost use Rattle.lnt_spans.specs.declared.scope.Coverage.{Coverage as SpecCoverage};
 
     ghost Case: { Type 0 };
 
@@ -62,7 +62,7 @@ impl<S: SpanSource, T: SpanSource> StretchSource<Difference> for Differences<S, 
     ghost use Rattle.lnt_spans.specs.Differences.{stretch_of};
     ghost use Rattle.lnt_spans.specs.Partial.{AreCounts};
     ghost use Rattle.lnt_spans.specs.Stretching.{HasFoundStretches, all_by, missed_by, stretches_left};
-    ghost use Rattle.lnt_table.specs.AnyVersion.{coverage_but};
+    ghost use Rattle.lnt_spans.specs.Partial.{coverage_but};
     ghost use Rattle.lnt_answers.specs.Stepping.{TwoAnswers};
 
     ghost Case = { TwoAnswers Answer };
@@ -118,7 +118,7 @@ impl<'t, 'p, S: SpanSource, P: Paths> StretchSource<DifferenceByPath>
     ghost use Rattle.lnt_compare.specs.declared.path_tables.answer.DifferenceByPath.{DifferenceByPath as SpecDifference};
     ghost use Rattle.lnt_compare.specs.Differing.{HasFoundStretchesByPath, path_all_by, path_missed_by, path_stretches_left};
     ghost use Rattle.lnt_compare.specs.PathStretches.{stretch_of, stretches_of};
-    ghost use Rattle.lnt_table.specs.AnyVersion.{coverage_but};
+    ghost use Rattle.lnt_spans.specs.Partial.{coverage_but};
     ghost use Rattle.lnt_answers.specs.Stepping.{TwoAnswers};
 
     ghost Case = { TwoAnswers PathAnswer };

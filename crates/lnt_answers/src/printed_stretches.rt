@@ -15,7 +15,8 @@ use lnt_io::{IoStop, Source, Status, print_line};
 use lnt_lines::Index;
 use lnt_records::TableFault;
 use lnt_table::{
-    Coverage, IndexPaths, OfKind, TableNo, Verdict, differences_any, differences_by_path,
+    CheckedWithin, Coverage, IndexPaths, OfKind, TableNo, Verdict, differences_any,
+    differences_by_path,
 };
 use std::alloc::Global;
 use std::io::Write;
@@ -132,7 +133,7 @@ pub(crate) fn print_end<W: Write>(
         return Ok(Status::No);
     };
     let yes = OfKind::Numbered(Verdict::Yes);
-    let checked = report.scope.answer_if_right(coverage, yes);
+    let checked = CheckedWithin::if_right(report.scope, coverage, yes);
     print_line(alloc, &CheckLine(&checked, report.at_least), out)?;
     Ok(status_of(&checked, report.at_least))
 }

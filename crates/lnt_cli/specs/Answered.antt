@@ -21,9 +21,10 @@ use Rattle.lnt_words.specs.declared.request.Request.{Request}
 use Rattle.lnt_words.specs.declared.request.Request.TheVariants.{Help, Read, Upgrade, Symbols, Judge, JudgeWith}
 use Rattle.lnt_words.specs.declared.request.Upgrading.{Upgrading}
 use Rattle.lnt_table.specs.declared.within.CheckedWithin.{CheckedWithin}
-use Rattle.lnt_table.specs.declared.within.Scope.{Scope}
+use Rattle.lnt_spans.specs.declared.scope.Scope.{Scope}
 use Rattle.lnt_table.specs.AnyCopy.{IsTrueOfAny, skipping}
-use Rattle.lnt_table.specs.AnyVersion.{IsOfScope, IsTrueOfSectionWithin, IsTrueWithin, scope_in}
+use Rattle.lnt_spans.specs.Partial.{scope_in}
+use Rattle.lnt_table.specs.AnyVersion.{IsOfScope, IsTrueOfSectionWithin, IsTrueWithin}
 use Rattle.lnt_answers.specs.Verdicts.{checked_line, checked_status}
 use Rattle.lnt_words.specs.Words.{size_bytes}
 use Rattle.lnt_symbols.specs.SymbolTables.{HasPrinted, symbol_answers}

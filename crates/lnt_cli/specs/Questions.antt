@@ -25,7 +25,7 @@ use Rattle.lnt_words.specs.declared.request.Question.TheVariants.{Verify, Lookup
 use Rattle.lnt_records.specs.declared.path_records.version.PathVersion.{PathVersion}
 use Rattle.lnt_records.specs.declared.path_records.version.PathVersion.TheVariants.{Three, Four}
 use Rattle.lnt_answers.specs.declared.report.Report.{Report}
-use Rattle.lnt_table.specs.AnyVersion.{scope_in}
+use Rattle.lnt_spans.specs.Partial.{scope_in}
 use Rattle.lnt_table.specs.Headline.{told_path}
 use Rattle.lnt_table.specs.Written.{BeginsTableOfUnits, IsTableOfUnits}
 use Rattle.lnt_answers.specs.AddressLines.{AreAddressesBegun, AreAddressesPrinted}

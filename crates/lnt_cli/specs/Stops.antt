@@ -23,8 +23,8 @@ use Rattle.lnt_cli.specs.declared.stop.FileStop.TheVariants.{Read, TooLong, Writ
 use Rattle.std.specs.Io.KnownBytes.{Keeps}
 use Rattle.lnt_io.specs.Prefixes.{AppendsPrefix, HasBegun}
 use Rattle.lnt_wire.specs.declared.format.Order.{Order}
-use Rattle.lnt_table.specs.declared.within.Scope.{Scope}
-use Rattle.lnt_table.specs.AnyVersion.{scope_in}
+use Rattle.lnt_spans.specs.declared.scope.Scope.{Scope}
+use Rattle.lnt_spans.specs.Partial.{scope_in}
 use Rattle.lnt_words.specs.Words.{size_bytes}
 use Rattle.lnt_words.specs.declared.request.Reading.{Reading}
 use Rattle.lnt_dump.specs.Printed.{IsUpgradeBegun}

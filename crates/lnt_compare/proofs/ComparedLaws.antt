@@ -2,12 +2,13 @@
 use Rattle.lnt_spans.specs.SpanKinds.{answer_held}
 use Rattle.std.proofs.Common.{◌≡◌, ◌∙◌, ℕ, List, Option, ap, inl, inr, refl, subst, sym}
 use Rattle.lnt_spans.specs.declared.position.Position.{Position}
+use Rattle.lnt_spans.specs.declared.scope.Scope.{Scope}
 use Rattle.lnt_spans.specs.AnyStretches.{Stretch, stretch_at}
 use Rattle.lnt_spans.specs.Differences.{IsFirstDifference}
-use Rattle.lnt_spans.specs.Merged.{AreFound}
+use Rattle.lnt_spans.specs.Merged.{IsJudged}
 use Rattle.lnt_spans.specs.Laws.{AnswerAlike}
 use Rattle.lnt_spans.specs.Positions.{IsBelow}
-use Rattle.lnt_spans.proofs.FoundLaws.{found_of_same}
+use Rattle.lnt_spans.proofs.JudgedLaws.{judged_of_same}
 use Rattle.lnt_spans.proofs.PositionLaws.{order_three}
 use Rattle.lnt_compare.specs.declared.outcome.Compared.TheVariants.{Same, Fault, Differs}
 use Rattle.lnt_compare.specs.Outcomes.{IsOutcomeOf, Outcome}
@@ -60,13 +61,14 @@ where_both {V} {X} kind laws bytes section P Q R step h k =
 
 -- ---- sections with the same answers
 
-pub outcome_of_alike : {V X Y D : Type 0} (kind : TableKind V X Y D) (bytes : List ℕ) (f g : V → Position → Option Y) (told : Outcome D)
-    → ((version : V) → AnswerAlike (f version) (g version)) → IsOutcomeOf kind f bytes told → IsOutcomeOf kind g bytes told
-outcome_of_alike kind bytes f g (outcome.Fault told) same h = h
-outcome_of_alike kind bytes f g (outcome.Table found) same h =
-    where_implied kind f g bytes (λ by_section by_table. AreFound kind.stretch by_section by_table found)
-    (λ by_section by_table. AreFound kind.stretch by_section by_table found)
-    (λ version by_table is. found_of_same kind.stretch by_table (f version) (g version) found (same version) is) h
+pub outcome_of_alike : {V X Y D : Type 0} (kind : TableKind V X Y D) (scope : Scope) (bytes : List ℕ) (f g : V → Position → Option Y)
+    (told : Outcome D) → ((version : V) → AnswerAlike (f version) (g version)) → IsOutcomeOf kind scope f bytes told
+    → IsOutcomeOf kind scope g bytes told
+outcome_of_alike kind scope bytes f g (outcome.Fault told) same h = h
+outcome_of_alike kind scope bytes f g (outcome.Table judged) same h =
+    where_implied kind f g bytes (λ by_section by_table. IsJudged scope kind.stretch by_section by_table judged)
+    (λ by_section by_table. IsJudged scope kind.stretch by_section by_table judged)
+    (λ version by_table is. judged_of_same scope kind.stretch by_table (f version) (g version) judged (same version) is) h
 
 -- ---- one comparison
 

@@ -5,6 +5,7 @@ use Rattle.std.proofs.Common.{append-nil, append_assoc, sym, arith, option_map, 
 use Rattle.std.specs.List.{AllZip}
 use Rattle.lnt_spans.specs.declared.answer.Answer.{Answer}
 use Rattle.lnt_spans.specs.declared.position.Position.{Position}
+use Rattle.lnt_spans.specs.declared.scope.Scope.{Scope}
 use Rattle.lnt_spans.specs.declared.span.Span.{Span}
 use Rattle.lnt_spans.specs.Spans.{end_of, AreInOrder, span_answer, number_spans}
 use Rattle.lnt_spans.specs.Merged.{BeginFrom, HasMerged, HasOneMore, answer_told, end_of_records}
@@ -12,7 +13,7 @@ use Rattle.lnt_spans.specs.Partial.{addresses_answered, addresses_of}
 use Rattle.lnt_spans.specs.Positions.{IsAtMost, IsBelow}
 use Rattle.lnt_spans.proofs.AnsweringLaws.{back_in_order, end_pushed, prefix_in_order, answer_after, answer_before, answer_in, answer_same}
 use Rattle.lnt_spans.proofs.CountLemmas.{addresses_of_spans, same_addresses}
-use Rattle.lnt_spans.proofs.FoundLaws.{found_of_same}
+use Rattle.lnt_spans.proofs.JudgedLaws.{judged_of_same}
 use Rattle.lnt_spans.proofs.MergedLemmas.{merged_past}
 use Rattle.lnt_spans.proofs.PassedLaws.{answer_below, answer_from, begin_after}
 use Rattle.lnt_spans.proofs.PositionLaws.{at_most_trans, below_at_most, below_is_at_most, order_cases}
@@ -229,14 +230,14 @@ passed_more to_come kind plain tell version old new section text more before aft
 
 pub outcome_told : {S D V X Y : Type 0} (M : Type 0) (to_come : S → List Span → Type 0) (kind : TableKind V X Y D) (tell : Answer → Y)
     (version : V) (list : List Span) (passed : List Fields) (bytes : List ℕ) (section : V → Position → Option Y)
-    (outcome : Outcome D) → ((p : Position) → answer_told tell list p ≡ section version p)
-    → HasCompared {M = M} to_come tell kind.stretch (Judges to_come kind tell version) (IsFaultIn kind.format) list passed bytes outcome
-    → IsOutcomeOf kind section bytes outcome
-outcome_told M to_come kind tell version list passed bytes section (Fault told) same h = h
-outcome_told M to_come kind tell version list passed bytes section (Table found) same h = record {
+    (scope : Scope) (outcome : Outcome D) → ((p : Position) → answer_told tell list p ≡ section version p)
+    → HasCompared {M = M} scope to_come tell kind.stretch (Judges to_come kind tell version) (IsFaultIn kind.format) list passed bytes
+    outcome → IsOutcomeOf kind scope section bytes outcome
+outcome_told M to_come kind tell version list passed bytes section scope (Fault told) same h = h
+outcome_told M to_come kind tell version list passed bytes section scope (Table judged) same h = record {
   version = version;
-  table = h.judged.table;
-  is_table = (passed ++ h.more, h.all, h.judged.is_table);
-  so = found_of_same kind.stretch (answer_held kind.spans h.judged.table) (answer_told tell list) (section version) found same
-      (h.found_is (answer_held kind.spans h.judged.table) h.judged.merged);
+  table = h.records.table;
+  is_table = (passed ++ h.more, h.all, h.records.is_table);
+  so = judged_of_same scope kind.stretch (answer_held kind.spans h.records.table) (answer_told tell list) (section version) judged same
+      (h.judged_is (answer_held kind.spans h.records.table) h.records.merged);
 }

@@ -5,6 +5,7 @@ use Rattle.std.specs.List.{AllZip}
 use Rattle.lnt_spans.specs.declared.answer.Version.{Version}
 use Rattle.lnt_spans.specs.declared.difference.Difference.{Difference}
 use Rattle.lnt_spans.specs.declared.position.Position.{Position}
+use Rattle.lnt_spans.specs.declared.scope.Scope.{Scope}
 use Rattle.lnt_spans.specs.declared.span.Span.{Span}
 use Rattle.lnt_compare.specs.Comparisons.{TableKind}
 use Rattle.lnt_compare.specs.Outcomes.{IsOutcome, IsOutcomeOf, Outcome}
@@ -84,13 +85,13 @@ holds_of_rest P d ld line window all ends h = subst P (sym (ends.joined ∙ appe
 pub rest_compared : {S R D M V X Y : Type 0} (coming : S → List Span → Type 0) (to_come : R → List Span → Type 0)
     (kind : TableKind V X Y D) (plain : LineFormat V X) → LineLaws kind.format plain → FormatLaws kind.format
     → (tell : Answer → Y) (told : Span → X) → ToldLaws kind tell told → (version : V) (section : S) (list : List Span)
-    (source : Option (List ℕ)) (may_give : ℕ) (window : List ℕ) (answers : V → Position → Option Y) (outcome : Outcome D)
-    → HasComparedLines {M = M} coming to_come kind.format plain tell told kind.stretch version (Judges to_come kind tell version)
-    (IsFaultIn kind.format) section source may_give window outcome → coming section list → AreInOrder list
-    → ((p : Position) → answer_told tell list p ≡ answers version p)
-    → IfSome source (λ more. IsOutcomeOf kind answers (plain.line (plain.names version) ++ (window ++ more)) outcome)
+    (source : Option (List ℕ)) (may_give : ℕ) (window : List ℕ) (answers : V → Position → Option Y) (scope : Scope)
+    (outcome : Outcome D) → HasComparedLines {M = M} scope coming to_come kind.format plain tell told kind.stretch version
+    (Judges to_come kind tell version) (IsFaultIn kind.format) section source may_give window outcome → coming section list
+    → AreInOrder list → ((p : Position) → answer_told tell list p ≡ answers version p)
+    → IfSome source (λ more. IsOutcomeOf kind scope answers (plain.line (plain.names version) ++ (window ++ more)) outcome)
 rest_compared {M = M} coming to_come kind plain laws format tell told told_laws version section list source may_give window answers
-    outcome c come order same =
+    scope outcome c come order same =
     let off = c.left list come order in
     let first = passed_past to_come kind plain tell told told_laws version c.spans c.old list c.table c.compared c.count c.end c.answered
     c.past c.lines off.0 off.1 in
@@ -101,9 +102,9 @@ rest_compared {M = M} coming to_come kind plain laws format tell told told_laws 
     let judged = subst (λ (names : Fields). Judges to_come kind tell version c.new h.list (names ∷ h.records))
     (sym (laws.names version)) h.judged in
     whole_cut kind.format plain laws version source c.source_after may_give c.may_still _ window c.window_after (c.compared ++ c.parsed)
-    c.all h.judged.table h.records (λ (bytes : List ℕ). IsOutcomeOf kind answers bytes outcome) refl c.passes c.ends h.text_is
+    c.all h.judged.table h.records (λ (bytes : List ℕ). IsOutcomeOf kind scope answers bytes outcome) refl c.passes c.ends h.text_is
     h.judged.is_table.1.each
-    (λ bytes cut. outcome_told M to_come kind tell version h.list passed bytes answers outcome (λ p. h.alike p ∙ same p)
+    (λ bytes cut. outcome_told M to_come kind tell version h.list passed bytes answers scope outcome (λ p. h.alike p ∙ same p)
     (c.found (plain.names version) h.list passed bytes narrow header cut judged (omega (arith, h.count))))
 
 -- what holds of all bytes, of which the first were taken
@@ -134,10 +135,9 @@ all_taken a b la lb window all P p ends h = first_taken a b la lb window [] P p 
 -- ---- the header's fault
 
 -- Bytes that begin with a header don't have the header's fault.
-pub not_header : (bytes : List ℕ) (version : Version) (section : List Span) (outcome : Outcome Difference)
-    → BeginsWith bytes (column_names version ∷ [])
-    → IsOutcome bytes section outcome → outcome ≢ Fault fault.Header
-not_header bytes version section outcome begins h e = subst (IsOutcome bytes section) e h version begins
+pub not_header : (scope : Scope) (bytes : List ℕ) (version : Version) (section : List Span) (outcome : Outcome Difference)
+    → BeginsWith bytes (column_names version ∷ []) → IsOutcome scope bytes section outcome → outcome ≢ Fault fault.Header
+not_header scope bytes version section outcome begins h e = subst (IsOutcome scope bytes section) e h version begins
 
 -- bytes that begin with a header don't have the header's fault
 pub no_header_fault : {S : Type 0} (of_section : Remaining S → List Span → Type 0) (of_table : SpanList → List Span → Type 0)

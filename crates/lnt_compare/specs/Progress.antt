@@ -1,18 +1,19 @@
 -- How far a table was read and compared, by number or by path. `tell` gives what a table contains of an answer. No public contract speaks
 -- of it.
 use Rattle.lnt_spans.specs.SpanKinds.{answer_held, last_end}
-use Rattle.std.specs.Prelude.{◌≡◌, ℕ, ◌+◌, List, [], ◌∷◌, ◌++◌, None, Option, Vec, length, option_map}
+use Rattle.std.specs.Prelude.{◌≡◌, ℕ, ◌+◌, List, [], ◌∷◌, ◌++◌, None, Option, Vec, Result, length, option_map}
 use Rattle.std.specs.Global.{Global}
 use Rattle.lnt_spans.specs.declared.answer.Answer.{Answer}
 use Rattle.lnt_spans.specs.declared.answer.Version.{Version}
-use Rattle.lnt_spans.specs.declared.found.Found.{Found}
+use Rattle.lnt_spans.specs.declared.scope.Coverage.{Coverage}
+use Rattle.lnt_spans.specs.declared.scope.Scope.{Scope}
 use Rattle.lnt_spans.specs.declared.position.Position.{Position}
 use Rattle.lnt_spans.specs.declared.span.Span.{Span}
 use Rattle.lnt_spans.specs.Remaining.{IsAhead}
 use Rattle.lnt_spans.specs.Answers.{in_version}
 use Rattle.lnt_spans.specs.AnyStretches.{Stretch}
 use Rattle.lnt_spans.specs.Spans.{end_of, AreInOrder, version_answer}
-use Rattle.lnt_spans.specs.Merged.{AreFound, HasMerged, HasOneMore, answer_told, end_of_records}
+use Rattle.lnt_spans.specs.Merged.{HasMerged, HasOneMore, IsJudged, answer_told, end_of_records}
 use Rattle.lnt_spans.specs.Partial.{addresses_of}
 use Rattle.lnt_spans.specs.Positions.{IsAtMost, IsBelow}
 pub use Rattle.lnt_compare.specs.declared.comparison.Comparison.{Comparison}
@@ -78,30 +79,31 @@ pub record HasPassed {S D M V X Y : Type 0} (to_come : S → List Span → Type 
   pub alike : AnswerAlike tell list section
   pub judged : Judges to_come kind tell version comparison list (kind.format.names version ∷ records)
 
--- All records of the bytes were compared, and this was found.
-pub record HasFound {S D M Y : Type 0} (to_come : S → List Span → Type 0) (tell : Answer → Y) (value_of : D → Stretch Y)
+-- All records of the bytes were compared, and in the scope the table was judged to be this.
+pub record HasJudged {S D M Y : Type 0} (scope : Scope) (to_come : S → List Span → Type 0) (tell : Answer → Y) (value_of : D → Stretch Y)
     (judges : Comparison S D M → List Span → List Fields → Type 0) (list : List Span) (passed : List Fields) (bytes : List ℕ)
-    (found : Found D) : Type 0 where
+    (judged : Result Coverage D) : Type 0 where
   pub comparison : Comparison S D M
   pub more : List Fields
   pub all : RecordsOf bytes (passed ++ more)
-  pub judged : judges comparison list (passed ++ more)
-  pub found_is : (by_table : Position → Option Y) → HasMerged to_come tell value_of comparison.merge list by_table
-      → AreFound value_of (answer_told tell list) by_table found
+  pub records : judges comparison list (passed ++ more)
+  pub judged_is : (by_table : Position → Option Y) → HasMerged to_come tell value_of comparison.merge list by_table
+      → IsJudged scope value_of (answer_told tell list) by_table judged
 
 -- Or this is the first fault.
-abbrev pub HasCompared : {S D M Y : Type 0} → (S → List Span → Type 0) → (Answer → Y) → (D → Stretch Y)
+abbrev pub HasCompared : {S D M Y : Type 0} → Scope → (S → List Span → Type 0) → (Answer → Y) → (D → Stretch Y)
     → (Comparison S D M → List Span → List Fields → Type 0) → (List ℕ → TableFault → Type 0) → List Span → List Fields → List ℕ → Outcome D
     → Type 0
-HasCompared to_come tell value_of judges is_fault list passed bytes (read.Fault told) = is_fault bytes told
-HasCompared to_come tell value_of judges is_fault list passed bytes (read.Table found) =
-    HasFound to_come tell value_of judges list passed bytes found
+HasCompared scope to_come tell value_of judges is_fault list passed bytes (read.Fault told) = is_fault bytes told
+HasCompared scope to_come tell value_of judges is_fault list passed bytes (read.Table judged) =
+    HasJudged scope to_come tell value_of judges list passed bytes judged
 
 -- ---- a table that is compared as it comes
 
 -- The first lines of a table were compared with spans as these came, and the lines after them were parsed. The other records were read
--- from `all`: the header, then the bytes after these lines. This was found. Before, the source had `source`, and the window `window`.
-pub record HasComparedLines {S R D M V X Y : Type 0} (coming : S → List Span → Type 0) (to_come : R → List Span → Type 0)
+-- from `all`: the header, then the bytes after these lines. The outcome is that of the table in the scope. Before, the source had
+-- `source`, and the window `window`.
+pub record HasComparedLines {S R D M V X Y : Type 0} (scope : Scope) (coming : S → List Span → Type 0) (to_come : R → List Span → Type 0)
     (format : TableFormat V X) (plain : LineFormat V X) (tell : Answer → Y) (told : Span → X) (value_of : D → Stretch Y) (version : V)
     (judges : Comparison R D M → List Span → List Fields → Type 0) (is_fault : List ℕ → TableFault → Type 0) (section : S)
     (source : Option (List ℕ)) (may_give : ℕ) (window : List ℕ) (outcome : Outcome D) : Type 0 where
@@ -128,7 +130,7 @@ pub record HasComparedLines {S R D M V X Y : Type 0} (coming : S → List Span �
   pub ends : Ends source_after may_still (plain.line (plain.names version) ++ window_after) all
   pub found : (first : Fields) (list : List Span) (passed : List Fields) (bytes : List ℕ) → IsNarrow first → BeginsWith all (first ∷ [])
       → IsCutAfter first all bytes passed → judges new list passed → next ≡ length passed
-      → HasCompared to_come tell value_of judges is_fault list passed bytes outcome
+      → HasCompared scope to_come tell value_of judges is_fault list passed bytes outcome
 
 -- ---- spans of a table by number that are gathered
 

@@ -16,13 +16,13 @@ use csv::ByteRecord;
 use lnt_records::{
     TableFault, TakeFault, TakesRecords, first_span, header_of, span_of, take_records,
 };
-use lnt_spans::{Difference, Merge, Position, SpanSource, Telling, Version};
+use lnt_spans::{Difference, Merge, Position, Scope, SpanSource, Telling, Version};
 use std::alloc::{AllocError, Global};
 
-/// Compares the table in these bytes with the spans of a section, which come from a source.
+/// Compares the table in these bytes with the spans of a section, which come from a source, at the positions of this scope.
 ///
-/// The records are read one by one, as `csv` reads them, and none is kept. `Table`: the bytes are a table, and this is what was found
-/// in the fields of the table's version: in version 1 the spans' instruction sets and discriminators don't count. `Fault`: the bytes
+/// The records are read one by one, as `csv` reads them, and none is kept. `Table`: the bytes are a table, and this is what it is judged
+/// to be in the fields of its version: in version 1 the spans' instruction sets and discriminators don't count. `Fault`: the bytes
 /// are not a table. The first faulty record is reported, even if answers differed before it.
 ///
 /// The caller makes sure that the spans are in order and none is empty. Fails only if memory runs out.
@@ -30,14 +30,16 @@ pub fn compare_records<S: SpanSource + Drop>(
     alloc: Global,
     table: &[u8],
     spans: S,
+    scope: Scope,
 ) -> Result<Outcome<Difference>, AllocError>
-    ensures { IfOk result (λ outcome. (list : List Span) → S.to_come spans list → AreInOrder list → IsOutcome table.now list outcome) }
+    ensures { IfOk result (λ outcome. (list : List Span) → S.to_come spans list → AreInOrder list
+        → IsOutcome scope table.now list outcome) }
 {
     let Some(version) = header_of::<Version>(alloc, table)? else {
         return Ok(TableRead::Fault(TableFault::Header));
     };
     let comparison = Comparison::past((), spans, Position { address: 0, op: 0 }, 0);
-    compare_after(alloc, table, &version, comparison, 1)
+    compare_after(alloc, table, &version, comparison, 1, scope)
 }
 
 // Compares the records of a text after its first one, as `csv` reads them, with the spans that a section has left. The comparison may
@@ -51,19 +53,21 @@ pub(crate) fn compare_after<
     telling: &T,
     mut comparison: Comparison<S, T::Difference, T::Memory>,
     number: u64,
+    scope: Scope,
 ) -> Result<Outcome<T::Difference>, AllocError>
     requires first { (first : Fields) × IsNarrow first × BeginsWith text.now (first ∷ []) }
     requires right { T.is_right telling.now comparison }
     ensures { IfOk result (λ outcome. (first : Fields) (list : List Span) (passed : List Fields) (bytes : List ℕ) → IsNarrow first
         → BeginsWith text.now (first ∷ []) → IsCutAfter first text.now bytes passed → T.judges telling.now comparison list passed
         → number ≡ length passed
-        → HasCompared S.to_come (T.tell telling.now) T.value_of (T.judges telling.now) (T.is_fault telling.now) list passed bytes outcome) }
+        → HasCompared scope S.to_come (T.tell telling.now) T.value_of (T.judges telling.now) (T.is_fault telling.now) list passed bytes
+        outcome) }
 {
     if let Some(fault) = take_records(alloc, text, telling, &mut comparison, number)? {
         return Ok(TableRead::Fault(fault));
     }
-    match telling.finish(comparison.merge) {
-        Ok(found) => Ok(TableRead::Table(found)),
+    match telling.finish(comparison.merge, scope) {
+        Ok(judged) => Ok(TableRead::Table(judged)),
         Err(error) => Err(error),
     }
 }

@@ -8,7 +8,7 @@ use crate::line_telling::LineTelling;
 use crate::window::Window;
 use lnt_io::{Source, Stop};
 use lnt_records::{LineRoom, ROOM, TableVersion};
-use lnt_spans::{Answer, Difference, Found, Merge, Span, SpanSource, Telling, Version};
+use lnt_spans::{Answer, Coverage, Difference, Merge, Scope, Span, SpanSource, Telling, Version};
 use std::alloc::{AllocError, Global};
 
 impl Joins for Version {
@@ -26,7 +26,7 @@ impl LineTelling for Version {
     ghost use Rattle.lnt_records.specs.Table.{by_number};
     ghost use Rattle.lnt_records.specs.Written.{IsOfVersion, plain_by_number};
     ghost use Rattle.lnt_spans.specs.Answers.{in_version};
-    ghost use Rattle.lnt_spans.specs.Merged.{AreFound, HasMerged, answer_told};
+    ghost use Rattle.lnt_spans.specs.Merged.{HasMerged, IsJudged, answer_told};
     ghost use Rattle.lnt_spans.specs.Spans.{span_in_version};
     ghost use Rattle.lnt_spans.specs.Differences.{stretch_of};
     ghost use Rattle.lnt_spans.specs.declared.answer.Answer.{Answer as SpecAnswer};
@@ -52,13 +52,14 @@ impl LineTelling for Version {
     fn finish<S: SpanSource + Drop>(
         &self,
         merge: Merge<S, Difference>,
-    ) -> Result<Found<Difference>, AllocError>
-        ensures { IfOk result (λ found. (spans : List SpecSpan) (by_table : SpecPosition → Option SpecAnswer)
+        scope: Scope,
+    ) -> Result<Result<Coverage, Difference>, AllocError>
+        ensures { IfOk result (λ judged. (spans : List SpecSpan) (by_table : SpecPosition → Option SpecAnswer)
             → HasMerged S.to_come (in_version self.now) stretch_of merge spans by_table
-            → AreFound stretch_of (answer_told (in_version self.now) spans) by_table found) }
+            → IsJudged scope stretch_of (answer_told (in_version self.now) spans) by_table judged) }
     {
-        match merge.finish(self) {
-            Ok(found) => Ok(found),
+        match merge.finish(self, scope) {
+            Ok(judged) => Ok(judged),
             Err(never) => match never {},
         }
     }

@@ -3,7 +3,7 @@ use crate::joined::Joins;
 use crate::window::Window;
 use lnt_io::{Source, Stop};
 use lnt_records::LineRoom;
-use lnt_spans::{Found, Merge, Span, SpanSource};
+use lnt_spans::{Coverage, Merge, Scope, Span, SpanSource};
 use std::alloc::{AllocError, Global};
 
 /// How a table that contains this of an answer is compared as text: a line for each joined span.
@@ -17,7 +17,7 @@ pub(crate) trait LineTelling: Joins {
     ghost use Rattle.lnt_io.specs.Stopping.{CountsFailure};
     ghost use Rattle.lnt_records.specs.Table.{TableFormat};
     ghost use Rattle.lnt_records.specs.Written.{LineFormat};
-    ghost use Rattle.lnt_spans.specs.Merged.{AreFound, HasMerged, answer_told};
+    ghost use Rattle.lnt_spans.specs.Merged.{HasMerged, IsJudged, answer_told};
     ghost use Rattle.lnt_spans.specs.declared.position.Position.{Position as SpecPosition};
     ghost use Rattle.lnt_spans.specs.declared.span.Span.{Span as SpecSpan};
     ghost use Rattle.lnt_compare.specs.Passing.{IsLineIn, Passes};
@@ -36,14 +36,15 @@ pub(crate) trait LineTelling: Joins {
 
     ghost has_line: { Self → SpecSpan → Type 0 };
 
-    /// What a comparison found, as `Merge::finish` gives it. Fails only if memory runs out.
+    /// What a table is judged to be in this scope, as `Merge::finish` gives it. Fails only if memory runs out.
     fn finish<S: SpanSource + Drop>(
         &self,
         merge: Merge<S, Self::Difference>,
-    ) -> Result<Found<Self::Difference>, AllocError>
-        ensures { IfOk result (λ found. (spans : List SpecSpan) (by_table : SpecPosition → Option Self.Told)
+        scope: Scope,
+    ) -> Result<Result<Coverage, Self::Difference>, AllocError>
+        ensures { IfOk result (λ judged. (spans : List SpecSpan) (by_table : SpecPosition → Option Self.Told)
             → HasMerged S.to_come (Self.tell self.now) Self.value_of merge spans by_table
-            → AreFound Self.value_of (answer_told (Self.tell self.now) spans) by_table found) };
+            → IsJudged scope Self.value_of (answer_told (Self.tell self.now) spans) by_table judged) };
 
     /// The header as a line.
     fn header(&self) -> &'static [u8]

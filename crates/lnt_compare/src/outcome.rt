@@ -1,6 +1,6 @@
 //! What the comparison of a table with a section comes to.
 use lnt_records::TableFault;
-use lnt_spans::Found;
+use lnt_spans::Coverage;
 
 /// What reading a table comes to.
 #[derive(Drop)]
@@ -11,8 +11,9 @@ pub enum TableRead<T> {
     Table(T),
 }
 
-/// What the comparison of a table with a section comes to.
-pub type Outcome<D> = TableRead<Found<D>>;
+/// What a table is judged to be in a scope: not a table; or `Ok` with how much of the section it answers, if it is right in the scope; or
+/// `Err` with the least position of the scope at which it isn't.
+pub type Outcome<D> = TableRead<Result<Coverage, D>>;
 
 /// What is told of a comparison at all positions, or at those at which the table answers.
 #[derive(Debug, Drop, PartialEq, Eq)]

@@ -18,14 +18,14 @@ use crate::passing::pass_spans;
 use crate::remaining::Remaining;
 use crate::window::Window;
 use lnt_io::{Source, Stop};
-use lnt_spans::{Difference, SpanSource, Telling, Version};
+use lnt_spans::{Difference, Scope, SpanSource, Telling, Version};
 use std::alloc::Global;
 
-/// Compares a table by number of this version with the spans of a section, both as they come. The header, a line of its own, was
-/// passed; `window` has the bytes after it that were taken from the source so far.
+/// Compares a table by number of this version with the spans of a section, both as they come, at the positions of this scope. The header,
+/// a line of its own, was passed; `window` has the bytes after it that were taken from the source so far.
 ///
 /// The outcome is `Fault` if the bytes are not a table: the first faulty record is reported, even if answers differed before it.
-/// `Table`: all records are well formed, and this is what was found in the fields of the table's version: in version 1 the spans'
+/// `Table`: all records are well formed, and this is what the table is judged to be in the fields of its version: in version 1 the spans'
 /// instruction sets and discriminators don't count.
 ///
 /// As long as the table's lines are those that `write_canonical` writes for the spans, they are compared as text and not
@@ -42,14 +42,16 @@ pub fn compare_lines<S: SpanSource + Drop, T: Source>(
     window: Window,
     version: Version,
     spans: S,
+    scope: Scope,
 ) -> Result<Outcome<Difference>, Stop>
     requires { T.failures table.old < 2 ^ 64 - 1 }
     ensures ok { IfOk result (λ outcome. (list : List Span) → S.to_come spans list → AreInOrder list
-        → IfSome (T.remaining table.old) (λ more. IsOutcome (line_text (column_names version) ++ (window ++ more)) list outcome)) }
+        → IfSome (T.remaining table.old) (λ more. IsOutcome scope (line_text (column_names version) ++ (window ++ more)) list
+        outcome)) }
     ensures failures { CountsFailure ⟦<T as Source>⟧ table.old table.new result Stop.Read }
     ensures too_long { IsTooLongOn ⟦<T as Source>⟧ table.old table.new result Stop.TooLong }
 {
-    compare_coming(alloc, table, window, &version, (), spans)
+    compare_coming(alloc, table, window, &version, (), spans, scope)
 }
 
 // Compares a table with the spans of a section, both as they come, by number or by path. `memory` is what is remembered of answers at
@@ -67,6 +69,7 @@ pub(crate) fn compare_coming<
     telling: &L,
     mut memory: L::Memory,
     spans: S,
+    scope: Scope,
 ) -> Result<Outcome<L::Difference>, Stop>
     requires failures { T.failures table.old < 2 ^ 64 - 1 }
     requires sound { L.is_sound telling.now memory }
@@ -74,7 +77,7 @@ pub(crate) fn compare_coming<
         → L.is_right telling.now state }
     requires first { (rest : List ℕ) → (first : Fields) × IsNarrow first
         × BeginsWith (L.plain.line (L.plain.names (L.version telling.now)) ++ rest) (first ∷ []) }
-    ensures ok { IfOk result (λ outcome. HasComparedLines S.to_come ⟦<Remaining<S> as SpanSource>⟧.to_come L.format L.plain
+    ensures ok { IfOk result (λ outcome. HasComparedLines scope S.to_come ⟦<Remaining<S> as SpanSource>⟧.to_come L.format L.plain
         (L.tell telling.now) (L.told telling.now) L.value_of (L.version telling.now) (L.judges telling.now) (L.is_fault telling.now)
         spans (T.remaining table.old) (T.left table.old) window outcome) }
     ensures failures { CountsFailure ⟦<T as Source>⟧ table.old table.new result Stop.Read }
@@ -91,6 +94,6 @@ pub(crate) fn compare_coming<
     let mut state = Comparison::past(memory, passed.spans, passed.end, passed.answered);
     let next = push_lines(alloc, telling, &mut state, passed.count, table, &mut window)?;
     let text = window.rest_after(alloc, telling.header(), table)?;
-    let outcome = compare_after(alloc, &text, telling, state, next)?;
+    let outcome = compare_after(alloc, &text, telling, state, next, scope)?;
     Ok(outcome)
 }

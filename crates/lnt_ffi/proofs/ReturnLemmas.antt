@@ -1,6 +1,6 @@
 -- What was judged of the bytes of a section is so of the section.
 use Rattle.std.proofs.Common.{ℕ, List}
-use Rattle.lnt_table.specs.declared.within.Scope.TheVariants.{All}
+use Rattle.lnt_spans.specs.declared.scope.Scope.TheVariants.{All}
 use Rattle.lnt_ffi.specs.declared.section.FlatSection.{FlatSection}
 use Rattle.lnt_ffi.specs.declared.verdict.FlatVerdict.{FlatVerdict}
 use Rattle.lnt_ffi.specs.Returns.{ReturnsVerdictByPath, ReturnsVerdict}

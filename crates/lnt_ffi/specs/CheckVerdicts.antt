@@ -8,7 +8,7 @@ use Rattle.lnt_table.specs.declared.kinds.OfKind.TheVariants.{Numbered, ByPath}
 use Rattle.lnt_table.specs.declared.verdict.Verdict.TheVariants.{No}
 use Rattle.lnt_table.specs.declared.within.CheckedWithin.{CheckedWithin}
 use Rattle.lnt_table.specs.declared.within.CheckedWithin.TheVariants.{Checked as Told, Covered}
-use Rattle.lnt_table.specs.declared.within.Coverage.{Coverage}
+use Rattle.lnt_spans.specs.declared.scope.Coverage.{Coverage}
 use Rattle.lnt_table.specs.Verdicts.{no_of_fault}
 use Rattle.lnt_ffi.specs.declared.flat.FlatAnswer.{FlatAnswer}
 use Rattle.lnt_ffi.specs.declared.verdict.FlatVerdict.{FlatVerdict}

@@ -15,8 +15,8 @@ use Rattle.lnt_lines.specs.Good.{IsGood, selected}
 use Rattle.lnt_lines.specs.Indexed.{file_count_in, file_path_in, Indexed}
 use Rattle.lnt_lines.specs.Nos.{IsTrueNo}
 use Rattle.lnt_table.specs.declared.within.CheckedWithin.{CheckedWithin}
-use Rattle.lnt_table.specs.declared.within.Scope.{Scope}
-use Rattle.lnt_table.specs.declared.within.Scope.TheVariants.{All}
+use Rattle.lnt_spans.specs.declared.scope.Scope.{Scope}
+use Rattle.lnt_spans.specs.declared.scope.Scope.TheVariants.{All}
 use Rattle.lnt_table.specs.AnyVersion.{IsTrueWithin}
 use Rattle.lnt_table.specs.Written.{IsTableOfUnits}
 use Rattle.lnt_ffi.specs.declared.section.FlatSection.{FlatSection}

@@ -2,8 +2,8 @@
 ghost use Rattle.std.specs.Prelude.{◌≡◌, length};
 ghost use Rattle.lnt_ffi.specs.CheckVerdicts.{paths_in, verdict_of_check};
 ghost use Rattle.lnt_ffi.specs.Returns.{ReturnsVerdictByPath, ReturnsVerdict, with_prefix};
-ghost use Rattle.lnt_table.specs.AnyVersion.{scope_in};
-ghost use Rattle.lnt_table.specs.declared.within.Scope.TheVariants as Scope;
+ghost use Rattle.lnt_spans.specs.Partial.{scope_in};
+ghost use Rattle.lnt_spans.specs.declared.scope.Scope.TheVariants as Scope;
 
 use crate::bytes::Bytes;
 use crate::check_verdict::{paths_in, verdict_of_check};

@@ -1,12 +1,14 @@
 -- A section's spans compared with the records of a table so far, whatever a table contains of an answer, which `tell` gives: what
 -- contracts see of a `Merge`. The table is a function from positions to answers.
-use Rattle.std.specs.Prelude.{◌≡◌, ℕ, cond, List, [], ◌∷◌, MatchOption, Option, Some, None}
-use Rattle.std.specs.Option.{option_map, option_or}
-use Rattle.lnt_spans.specs.declared.found.Found.{Found}
+use Rattle.std.specs.Prelude.{◌≡◌, ℕ, cond, List, [], ◌∷◌, Option, Some, None, Result, Ok, Err}
+use Rattle.std.specs.Option.{option_map}
 use Rattle.lnt_spans.specs.declared.merge.Merge.{Merge}
+use Rattle.lnt_spans.specs.declared.scope.Coverage.{Coverage}
+use Rattle.lnt_spans.specs.declared.scope.Scope.{Scope}
+use Rattle.lnt_spans.specs.declared.scope.Scope.TheVariants.{All, Answered}
 use Rattle.lnt_spans.specs.Remaining.{IsAhead}
 use Rattle.lnt_spans.specs.AnyStretches.{Stretch}
-use Rattle.lnt_spans.specs.Partial.{addresses_answered, IsFirstMistake, IsRightAt, IsRightWherever, where_missed}
+use Rattle.lnt_spans.specs.Partial.{addresses_answered, AreCounts, IsFirstMistake, IsRightAt, IsRightWherever, where_missed}
 use Rattle.lnt_spans.specs.Differences.{IsFirstDifference}
 use Rattle.lnt_spans.specs.Positions.{IsBelow, IsAtMost, is_below, Position}
 use Rattle.lnt_spans.specs.Spans.{AreInOrder, span_answer, Answer, Span}
@@ -92,28 +94,21 @@ pub record HasOneMore {X : Type 0} (old new : Position → Option X) (at low hig
   pub says : Says new low high said
   pub ended : (p : Position) → IsAtMost high p → new p ≡ None
 
--- ---- what was found
+-- ---- what a table is judged to be
 
--- the first difference
-abbrev pub first_of : {D : Type 0} → Found D → Option D
-first_of found = option_or found.gap found.mistake
+-- This is the least position of the scope at which the table isn't right: of all positions, or of those at which it answers.
+abbrev pub IsWrongFirst : {X : Type 0} → Scope → (Position → Option X) → (Position → Option X) → Stretch X → Type 0
+IsWrongFirst All by_section by_table first = IsFirstDifference by_section by_table first
+IsWrongFirst Answered by_section by_table first = IsFirstMistake by_table by_section first
 
--- the number, if there is no mistake
-abbrev pub unless : {D : Type 0} → Option D → ℕ → Option ℕ
-unless None missed = Some missed
-unless (Some mistake) missed = None
+-- The table answers as the section does at each position of the scope.
+abbrev pub IsRightThroughout : {X : Type 0} → Scope → (Position → Option X) → (Position → Option X) → Type 0
+IsRightThroughout All by_section by_table = (p : Position) → by_section p ≡ by_table p
+IsRightThroughout Answered by_section by_table = IsRightWherever by_table by_section
 
--- the number of addresses at which the section answers and the table doesn't, if there is no mistake
-abbrev pub missed_of : {D : Type 0} → Found D → Option ℕ
-missed_of found = unless found.mistake found.missed
-
--- Where both sides answer alike at every position, there is no first difference; where the table is right wherever it answers, no
--- mistake. Without a mistake, the section answers at this many addresses, and at this many at which the table doesn't.
-pub record AreFound {D X : Type 0} (value_of : D → Stretch X) (by_section by_table : Position → Option X) (found : Found D) : Type
-    0 where
-  pub first : MatchOption (first_of found) ((p : Position) → by_section p ≡ by_table p)
-      (λ difference. IsFirstDifference by_section by_table (value_of difference))
-  pub mistake : MatchOption found.mistake (IsRightWherever by_table by_section)
-      (λ mistake. IsFirstMistake by_table by_section (value_of mistake))
-  pub missed : found.mistake ≡ None → found.missed ≡ addresses_answered (where_missed by_table by_section)
-  pub all : found.mistake ≡ None → found.all ≡ addresses_answered by_section
+-- The table is right in the scope, and answers so much of the section; or it is wrong at this position first.
+abbrev pub IsJudged : {D X : Type 0} → Scope → (D → Stretch X) → (Position → Option X) → (Position → Option X) → Result Coverage D
+    → Type 0
+IsJudged scope value_of by_section by_table (Ok coverage) =
+    IsRightThroughout scope by_section by_table × AreCounts by_table by_section coverage.answered coverage.all
+IsJudged scope value_of by_section by_table (Err wrong) = IsWrongFirst scope by_section by_table (value_of wrong)

@@ -1,6 +1,9 @@
 -- Tables that answer a part of the positions, and are right there, whatever an answer is.
-use Rattle.std.specs.Prelude.{◌≡◌, ℕ, zero, suc, ◌+◌, ◌^◌, ◌≤◌, Bool, ◌&&◌, cond, is_some, List, [], ◌∷◌, Option, ◌≢◌, ◌⊎◌, Some, None}
-use Rattle.std.specs.Prelude.{IsSome}
+use Rattle.std.specs.Prelude.{◌≡◌, ℕ, zero, suc, ◌+◌, ◌-◌, ◌^◌, ◌≤◌, Bool, false, true, ◌&&◌, cond, is_some, List, [], ◌∷◌, Option, ◌≢◌}
+use Rattle.std.specs.Prelude.{◌⊎◌, IsSome, None, Some}
+use Rattle.lnt_spans.specs.declared.scope.Coverage.{Coverage}
+use Rattle.lnt_spans.specs.declared.scope.Scope.{Scope}
+use Rattle.lnt_spans.specs.declared.scope.Scope.TheVariants.{All, Answered}
 use Rattle.lnt_spans.specs.declared.span.Span.{Span}
 use Rattle.lnt_spans.specs.Positions.{is_below, is_at_most, Position, IsBelow}
 use Rattle.std.specs.List.{AllByRecursion}
@@ -108,3 +111,12 @@ where_missed by_table by_section p = where_none (by_table p) (by_section p)
 pub record AreCounts {X : Type 0} (by_table by_section : Position → Option X) (of_both of_section : ℕ) : Type 0 where
   pub both : of_both ≡ addresses_answered (where_answered by_table by_section)
   pub section : of_section ≡ addresses_answered by_section
+
+-- how much of a section a table answers that misses so many of its addresses
+abbrev pub coverage_but : ℕ → ℕ → Coverage
+coverage_but missed all = record { answered = all - missed; all = all }
+
+-- the positions at which a table is compared with the section: those at which it answers, if the check is partial
+abbrev pub scope_in : Bool → Scope
+scope_in false = All
+scope_in true = Answered

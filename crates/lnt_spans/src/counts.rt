@@ -3,7 +3,9 @@ ghost use Rattle.std.specs.Prelude.{◌≡◌, ℕ, ◌+◌, ◌^◌, ◌<◌, �
 ghost use Rattle.lnt_spans.specs.declared.span.Span as spec;
 ghost use Rattle.lnt_spans.specs.Partial.{CountsTo, addresses_between, whole};
 ghost use Rattle.lnt_spans.specs.Positions.{IsAtMost, IsBelow};
+ghost use Rattle.lnt_spans.specs.Remaining.{IsAhead};
 
+use crate::ahead::Ahead;
 use crate::position::Position;
 use crate::source::SpanSource;
 
@@ -43,7 +45,18 @@ fn first_from(position: Position) -> u128
 }
 
 // The number of addresses that were counted, with those of the spans that are left.
-pub(crate) fn count_rest<S: SpanSource + Drop>(mut spans: S, mut count: u128) -> u128
+pub(crate) fn count_left<S: SpanSource + Drop>(ahead: Ahead<S>, mut count: u128) -> u128
+    ensures { (total : ℕ) (list : List spec.Span) → CountsTo (IsAhead S.to_come) total ahead count list → result ≡ total }
+{
+    let Some(span) = ahead.next else {
+        return count;
+    };
+    add_between(&mut count, span.low, span.high);
+    count_rest(ahead.spans, count)
+}
+
+// Does the same for the spans of a source.
+fn count_rest<S: SpanSource + Drop>(mut spans: S, mut count: u128) -> u128
     ensures { (total : ℕ) (list : List spec.Span) → CountsTo S.to_come total spans count list → result ≡ total }
 {
     while let Some(span) = spans.next_span() {

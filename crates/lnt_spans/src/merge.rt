@@ -1,17 +1,18 @@
-//! Finds where a section and a table first answer differently, and where the table is first wrong, in one pass over both.
+//! Judges whether a table answers as a section does, and finds where it first doesn't, in one pass over both.
 ghost use Rattle.std.specs.Prelude.{◌≡◌, ◌+◌, ◌^◌, ◌≤◌, List, Option, IfOk, IfSome, MatchOption, None, OnOk, Some, option_map};
 ghost use Rattle.lnt_spans.specs.declared.answer.Answer.{Answer as SpecAnswer};
 ghost use Rattle.lnt_spans.specs.declared.position.Position as spec_position;
 ghost use Rattle.lnt_spans.specs.declared.span.Span as spec;
 ghost use Rattle.lnt_spans.specs.Remaining.{IsAhead};
-ghost use Rattle.lnt_spans.specs.Merged.{AnswersNothing, AreCounted, AreFound, ArePassed, HasGap, HasMerged, HasOneMore, IsMistakenIn};
-ghost use Rattle.lnt_spans.specs.Merged.{Says, answer_told, end_of_records};
+ghost use Rattle.lnt_spans.specs.Merged.{AnswersNothing, AreCounted, ArePassed, HasGap, HasMerged, HasOneMore, IsJudged};
+ghost use Rattle.lnt_spans.specs.Merged.{IsMistakenIn, Says, answer_told, end_of_records};
+ghost use Rattle.lnt_spans.specs.declared.scope.Scope.TheVariants.{All, Answered};
 ghost use Rattle.lnt_spans.specs.Positions.{IsAtMost, IsBelow};
 
 use crate::ahead::Ahead;
-use crate::counts::{add_between, count_rest};
-use crate::found::Found;
+use crate::counts::{add_between, count_left};
 use crate::position::Position;
+use crate::scope::{Coverage, Scope};
 use crate::source::SpanSource;
 use crate::span::Span;
 use crate::telling::Telling;
@@ -100,39 +101,64 @@ impl<S: SpanSource + Drop, D: Drop> Merge<S, D> {
         Ok(())
     }
 
-    /// What the comparison found, once no record follows.
-    pub fn finish<T: Telling<Difference = D>>(self, telling: &T) -> Result<Found<D>, T::Refusal>
-        ensures { IfOk result (λ found. (spans : List spec.Span) (by_table : spec_position.Position → Option T.Told)
+    /// Once no record follows: how much of the section the table answers, if it is right in this scope; or `Err` with the least
+    /// position of the scope at which it isn't.
+    pub fn finish<T: Telling<Difference = D>>(
+        self,
+        telling: &T,
+        scope: Scope,
+    ) -> Result<Result<Coverage, D>, T::Refusal>
+        ensures { IfOk result (λ judged. (spans : List spec.Span) (by_table : spec_position.Position → Option T.Told)
             → HasMerged S.to_come (T.tell telling.now) T.value_of self spans by_table
-            → AreFound T.value_of (answer_told (T.tell telling.now) spans) by_table found) }
+            → IsJudged scope T.value_of (answer_told (T.tell telling.now) spans) by_table judged) }
+    {
+        match scope {
+            Scope::All => self.finish_all(telling),
+            Scope::Answered => Ok(self.finish_answered::<T>()),
+        }
+    }
+
+    // Does so for all positions.
+    fn finish_all<T: Telling<Difference = D>>(
+        self,
+        telling: &T,
+    ) -> Result<Result<Coverage, D>, T::Refusal>
+        ensures { IfOk result (λ judged. (spans : List spec.Span) (by_table : spec_position.Position → Option T.Told)
+            → HasMerged S.to_come (T.tell telling.now) T.value_of self spans by_table
+            → IsJudged All T.value_of (answer_told (T.tell telling.now) spans) by_table judged) }
+    {
+        if let Some(first) = self.gap.or(self.mistake) {
+            return Ok(Err(first));
+        }
+        if let Some(span) = self.spans.next {
+            let first = telling.difference(span.low, None, Some(span.answer))?;
+            return Ok(Err(first));
+        }
+        Ok(Ok(Coverage {
+            answered: self.answered,
+            all: self.answered,
+        }))
+    }
+
+    // Does so for the positions at which the table answers. `T` says what the table contains of an answer.
+    fn finish_answered<T: Telling<Difference = D>>(self) -> Result<Coverage, D>
+        ensures { (tell : SpecAnswer → T.Told) (spans : List spec.Span) (by_table : spec_position.Position → Option T.Told)
+            → HasMerged S.to_come tell T.value_of self spans by_table
+            → IsJudged Answered T.value_of (answer_told tell spans) by_table result }
     {
         let Merge {
             spans,
-            gap,
             mistake,
-            mut missed,
+            missed,
             answered,
             ..
         } = self;
-        let next = if mistake.is_some() { None } else { spans.next };
-        let Some(span) = next else {
-            return Ok(Found {
-                gap,
-                mistake,
-                missed,
-                all: sum(answered, missed),
-            });
-        };
-        let gap = match gap {
-            Some(gap) => gap,
-            None => telling.difference(span.low, None, Some(span.answer))?,
-        };
-        add_between(&mut missed, span.low, span.high);
-        let missed = count_rest(spans.spans, missed);
-        Ok(Found {
-            gap: Some(gap),
-            mistake: None,
-            missed,
+        if let Some(mistake) = mistake {
+            return Err(mistake);
+        }
+        let missed = count_left(spans, missed);
+        Ok(Coverage {
+            answered,
             all: sum(answered, missed),
         })
     }

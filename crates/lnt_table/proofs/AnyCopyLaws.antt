@@ -1,5 +1,5 @@
 -- Laws of tables that may answer as any of the sequences that hold a position.
-use Rattle.std.proofs.Common.{◌≡◌, ◌∙◌, ℕ, List, Option, Some, None, ◌⊎◌, inl, inr, ap, refl, sym, subst, option_map}
+use Rattle.std.proofs.Common.{◌≡◌, ◌∙◌, ℕ, List, Option, Some, None, inl, inr, ap, refl, sym, subst, option_map}
 use Rattle.lnt_header.specs.declared.unit_parts.UnitParts.{UnitParts}
 use Rattle.lnt_spans.specs.declared.answer.Answer.{Answer}
 use Rattle.lnt_spans.specs.declared.position.Position.{Position}
@@ -15,7 +15,7 @@ use Rattle.lnt_lines.specs.declared.options.Options.{Options}
 use Rattle.lnt_lines.specs.Good.{selected}
 use Rattle.lnt_table.specs.AnyCopy.{any_paths, IsRightIn, skipping}
 use Rattle.lnt_table.specs.AnyVersion.{told_paths}
-use Rattle.lnt_table.specs.declared.within.Scope.TheVariants.{All, Answered}
+use Rattle.lnt_spans.specs.declared.scope.Scope.TheVariants.{All, Answered}
 use Rattle.lnt_table.specs.Headline.{path_at}
 use Rattle.lnt_table.specs.Laws.{AnyIsKept, KeptIsAny}
 

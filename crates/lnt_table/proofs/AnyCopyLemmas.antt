@@ -1,5 +1,6 @@
 -- What asking the live sequences for the answers of a table says of the table and of the section.
-use Rattle.std.proofs.Common.{◌≡◌, ◌≢◌, ℕ, List, [], ◌∷◌, Option, Some, None, IfSome, inl, inr, refl, sym, subst, ap, ◌∙◌, map, option_map}
+use Rattle.std.proofs.Common.{◌≡◌, ◌≢◌, ℕ, List, [], ◌∷◌, Option, Some, IfSome, inl, inr, refl, sym, subst, option_map}
+use Rattle.std.proofs.Common.{Result, Ok, Err}
 use Rattle.std.proofs.lemmas.Option.{IfSome_then, same_Some}
 use Rattle.lnt_spans.specs.declared.answer.Answer.{Answer}
 use Rattle.lnt_spans.specs.declared.answer.Version.{Version}
@@ -19,23 +20,23 @@ use Rattle.lnt_records.specs.Table.{BeginsWith, by_number, column_names, IsTable
 use Rattle.lnt_records.proofs.BeginningLaws.{one_beginning, table_begins}
 use Rattle.lnt_records.proofs.NumberLaws.{numbered}
 use Rattle.lnt_compare.specs.declared.path_tables.answer.DifferenceByPath.{DifferenceByPath}
-use Rattle.lnt_compare.specs.Comparisons.{in_versions, IsTableWhere, TableKind, tables_by_number}
-use Rattle.lnt_compare.specs.Outcomes.{tables_by_path}
+use Rattle.lnt_compare.specs.Comparisons.{in_versions, IsTableWhere}
+use Rattle.lnt_compare.specs.Outcomes.{Outcome}
 use Rattle.lnt_compare.specs.PathStretches.{stretch_of as path_stretch_of}
 use Rattle.lnt_records.specs.declared.fault.TableFault.TheVariants as fault
 use Rattle.lnt_lines.specs.declared.options.Options.{Options}
 use Rattle.lnt_lines.specs.Good.{selected}
 use Rattle.lnt_lines.specs.Indexed.{Indexed, IsIndexOf}
 use Rattle.lnt_lines.specs.Judging.{IsIndexOfSection, IsIndexWithCopies}
-use Rattle.lnt_table.specs.declared.judged.Judged.{Judged}
-use Rattle.lnt_table.specs.declared.judged.Judged.TheVariants.{Fault, Right, Wrong}
+use Rattle.lnt_spans.specs.declared.scope.Coverage.{Coverage}
+use Rattle.lnt_compare.specs.declared.outcome.TableRead.TheVariants.{Fault, Table}
 use Rattle.lnt_table.specs.declared.kinds.OfKind.TheVariants.{ByPath, Numbered}
 use Rattle.lnt_table.specs.declared.within.CheckedWithin.{CheckedWithin}
-use Rattle.lnt_table.specs.declared.within.Scope.{Scope}
-use Rattle.lnt_table.specs.declared.within.Scope.TheVariants.{All, Answered}
-use Rattle.lnt_table.specs.AnyCopy.{IsTableAmong, IsTrueOfAny}
+use Rattle.lnt_spans.specs.declared.scope.Scope.{Scope}
+use Rattle.lnt_spans.specs.declared.scope.Scope.TheVariants.{All, Answered}
+use Rattle.lnt_table.specs.AnyCopy.{IsTrueOfAny}
 use Rattle.lnt_table.specs.Asked.{IsAsked, OfLive}
-use Rattle.lnt_table.specs.AskedTables.{IsAskedOf, IsReadByNumber, IsReadByPath, IsReadOf}
+use Rattle.lnt_table.specs.AskedTables.{IsAskedOf, IsReadByNumber, IsReadByPath}
 use Rattle.lnt_table.specs.Headline.{indexed_path, path_at, told_path}
 use Rattle.lnt_table.specs.Judged.{JudgedOfKind, told_in}
 use Rattle.lnt_table.proofs.AskedLemmas.{asked_told}
@@ -53,9 +54,9 @@ told_of scope line general options section table index (Numbered (Fault (fault.N
     (record { units = i.units; good = i.good; so = h.0 }, λ e. cc e)
 told_of scope line general options section table index (Numbered (Fault (fault.Order k))) i h =
     (record { units = i.units; good = i.good; so = h.0 }, λ e. cc e)
-told_of scope line general options section table index (Numbered (Wrong wrong)) i h =
+told_of scope line general options section table index (Numbered (Table (Err wrong))) i h =
     record { units = i.units; good = i.good; so = h.0 }
-told_of All line general options section table index (Numbered (Right coverage)) i h = (
+told_of All line general options section table index (Numbered (Table (Ok coverage))) i h = (
   refl,
   record {
     units = i.units;
@@ -63,13 +64,13 @@ told_of All line general options section table index (Numbered (Right coverage))
     so = record { version = h.0.version; table = h.0.table; is_table = h.0.is_table; so = h.0.so.0 };
   },
 )
-told_of Answered line general options section table index (Numbered (Right coverage)) i h =
+told_of Answered line general options section table index (Numbered (Table (Ok coverage))) i h =
     (refl, inl (record { units = i.units; good = i.good; so = h.0 }))
 told_of scope line general options section table index (ByPath (Fault told)) i h =
     (h.0, record { units = i.units; good = i.good; so = h.1 })
-told_of scope line general options section table index (ByPath (Wrong wrong)) i h =
+told_of scope line general options section table index (ByPath (Table (Err wrong))) i h =
     (h.0, record { units = i.units; good = i.good; so = h.1 })
-told_of All line general options section table index (ByPath (Right coverage)) i h = (
+told_of All line general options section table index (ByPath (Table (Ok coverage))) i h = (
   refl,
   h.0,
   record {
@@ -78,7 +79,7 @@ told_of All line general options section table index (ByPath (Right coverage)) i
     so = record { version = h.1.version; table = h.1.table; is_table = h.1.is_table; so = h.1.so.0 };
   },
 )
-told_of Answered line general options section table index (ByPath (Right coverage)) i h =
+told_of Answered line general options section table index (ByPath (Table (Ok coverage))) i h =
     (refl, inr (h.0, record { units = i.units; good = i.good; so = h.1 }))
 
 pub any_told : (scope : Scope) (line general : List ℕ) (options : Options) (section table : Option (List ℕ)) (index : Indexed)
@@ -94,7 +95,7 @@ any_told scope line general options section table index told checked i h is_told
 
 -- ---- a table of one kind
 
-abbrev faulty : TableFault → Judged Difference
+abbrev faulty : TableFault → Outcome Difference
 faulty told = Fault told
 
 pub not_header : (text : List ℕ) (version : Version) (told : TableFault) → BeginsWith text (column_names version ∷ []) → IsFault text told
@@ -104,53 +105,43 @@ not_header text version (fault.Fields k) begins h = λ e. cc e
 not_header text version (fault.Number k n) begins h = λ e. cc e
 not_header text version (fault.Order k) begins h = λ e. cc e
 
--- what asking for the answers of a table comes to is no fault of it
-read_so : {V X Y D : Type 0} (kind : TableKind V X Y D) (scope : Scope) (said : V → Position → Option Y → Type 0)
-    (section : V → Position → Option Y) (bytes : List ℕ) (asked : Judged D)
-    → IsTableAmong kind said section bytes (λ said by_section by_table. IsAsked scope kind.stretch said by_section by_table asked)
-    → IsReadOf kind scope said section bytes asked × (asked ≢ Fault fault.Header)
-read_so kind scope said section bytes (Fault told) h = absurd h.so
-read_so kind scope said section bytes (Wrong wrong) h = (h, λ e. cc e)
-read_so kind scope said section bytes (Right coverage) h = (h, λ e. cc e)
-
-pub numbers_read : (selection : Selection) (scope : Scope) (text : List ℕ) (version : Version) (asked : Judged Difference)
+pub numbers_read : (selection : Selection) (scope : Scope) (text : List ℕ) (version : Version) (asked : Result Coverage Difference)
     (HasFound : (Position → Option Answer) → (Position → Option Answer) → Type 0) → BeginsWith text (column_names version ∷ [])
     → IsTableWhere by_number span_answer (in_versions (line_answer selection)) text HasFound
     → ((f g : Position → Option Answer) → ((p : Position) → f p ≡ option_map (in_version version) (line_answer selection p))
     → HasFound f g → IsAsked scope stretch_of (IsAnyAnswer (in_version version) selection) f g asked)
-    → IsReadByNumber selection scope text asked
+    → IsReadByNumber selection scope text (Table asked)
 numbers_read selection scope text version asked HasFound begins h asks =
     let same : h.version ≡ version = numbered.one_version h.version version
     (one_beginning text (column_names h.version) (column_names version)
-    (table_begins by_number text h.version h.table h.is_table) begins) in
-    read_so tables_by_number scope (λ version. IsAnyAnswer (in_version version) selection) (in_versions (line_answer selection)) text asked
-    (record {
-      version = version;
-      table = h.table;
-      is_table = subst (λ (v : Version). IsTableOfIn by_number v text h.table) same h.is_table;
-      so = asks (in_versions (line_answer selection) version) (span_answer h.table) (λ p. refl)
-          (subst (λ (v : Version). HasFound (in_versions (line_answer selection) v) (span_answer h.table)) same h.so);
-    })
+    (table_begins by_number text h.version h.table h.is_table) begins) in (
+      record {
+        version = version;
+        table = h.table;
+        is_table = subst (λ (v : Version). IsTableOfIn by_number v text h.table) same h.is_table;
+        so = asks (in_versions (line_answer selection) version) (span_answer h.table) (λ p. refl)
+            (subst (λ (v : Version). HasFound (in_versions (line_answer selection) v) (span_answer h.table)) same h.so);
+      },
+      λ e. cc e,
+    )
 
 pub paths_read : (index : Indexed) (selection : Selection) (scope : Scope) (text : List ℕ) (version : PathVersion)
-    (spans : List PathSpan) (asked : Judged DifferenceByPath) → IsIndexOf selection index → IsTableOfIn by_path version text spans
+    (spans : List PathSpan) (asked : Result Coverage DifferenceByPath) → IsIndexOf selection index → IsTableOfIn by_path version text spans
     → IsAsked scope path_stretch_of (IsAnyAnswer (path_answer version (indexed_path index)) selection)
     (told_path version index selection) (path_span_answer spans) asked
-    → IsReadByPath index selection scope text asked
-paths_read index selection scope text version spans asked is held asks = (read_so tables_by_path scope
-    (λ version. IsAnyAnswer (path_answer version (path_at index.line index.general selection.units)) selection)
-    (λ version. told_path version index selection) text asked (record {
-      version = version;
-      table = spans;
-      is_table = held;
-      so = asked_told scope path_stretch_of (path_answer version (indexed_path index))
-          (path_answer version (path_at index.line index.general selection.units)) selection (told_path version index selection)
-          (path_span_answer spans) asked
-          (λ answer. same_Some (path_answer version (indexed_path index) answer)
-          (path_answer version (path_at index.line index.general selection.units) answer)
-          (same_answer version index selection is (Some answer)))
-          asks;
-    })).0
+    → IsReadByPath index selection scope text (Table asked)
+paths_read index selection scope text version spans asked is held asks = record {
+  version = version;
+  table = spans;
+  is_table = held;
+  so = asked_told scope path_stretch_of (path_answer version (indexed_path index))
+      (path_answer version (path_at index.line index.general selection.units)) selection (told_path version index selection)
+      (path_span_answer spans) asked
+      (λ answer. same_Some (path_answer version (indexed_path index) answer)
+      (path_answer version (path_at index.line index.general selection.units) answer)
+      (same_answer version index selection is (Some answer)))
+      asks;
+}
 
 -- the answers of the section, as the index tells them
 pub told_as : (version : PathVersion) (index : Indexed) (selection : Selection) → IsIndexOf selection index → (p : Position)

@@ -1,6 +1,6 @@
 -- Stretches of positions at which a table isn't right, found in those at which it and the kept sequences differ.
 use Rattle.std.proofs.Common.{◌≡◌, ◌≢◌, ◌∙◌, ◌^◌, ◌<◌, ◌≤◌, arith, Bool, List, [], ◌∷◌, ◌++◌, ◌⊎◌, inl, is_some, IfSome, MatchOption}
-use Rattle.std.proofs.Common.{inr, Option, Some, None, sym, subst, ap, refl, map, option_map, true, false}
+use Rattle.std.proofs.Common.{inr, Option, Some, None, sym, subst, ap, refl, map, option_map, true, false, Result, Ok, Err}
 use Rattle.std.specs.List.{AllByRecursion}
 use Rattle.std.proofs.lemmas.Bool.{cases_lt}
 use Rattle.std.proofs.lemmas.List.{map-append}
@@ -14,11 +14,10 @@ use Rattle.lnt_spans.proofs.PositionLaws.{order_three, same_position}
 use Rattle.lnt_sequences.specs.Copies.{IsAnyAnswer}
 use Rattle.lnt_sequences.specs.Sequences.{line_answer, Selection}
 use Rattle.lnt_sequences.proofs.AnyLemmas.{any_answers, any_as_kept}
-use Rattle.lnt_table.specs.declared.judged.Judged.{Judged}
-use Rattle.lnt_table.specs.declared.judged.Judged.TheVariants.{Fault, Right, Wrong}
+use Rattle.lnt_spans.specs.declared.scope.Coverage.{Coverage}
 use Rattle.lnt_table.specs.declared.copies.Copies.{Copies}
-use Rattle.lnt_table.specs.declared.within.Scope.{Scope}
-use Rattle.lnt_table.specs.declared.within.Scope.TheVariants.{All, Answered}
+use Rattle.lnt_spans.specs.declared.scope.Scope.{Scope}
+use Rattle.lnt_spans.specs.declared.scope.Scope.TheVariants.{All, Answered}
 use Rattle.lnt_table.specs.declared.wrong.Piece.{Piece}
 use Rattle.lnt_table.specs.AnyCopy.{AreAllWrong, AreFirstWrong, BeginsWrong, EndsWrong, IsFirstWrong, IsInWrong, IsRightIn, IsRightOrIn}
 use Rattle.lnt_table.specs.AnyCopy.{IsWrongWith, StayWrong}
@@ -536,7 +535,7 @@ kept_said tell selection f same p = subst (IsAnyAnswer tell selection p) (sym (s
 
 -- Whatever the answers are told by, if it tells the same.
 pub asked_told : {X D : Type 0} (scope : Scope) (stretch : D → Stretch X) (tell tell' : Answer → X) (selection : Selection)
-    (f g : Position → Option X) (asked : Judged D) → ((answer : Answer) → tell answer ≡ tell' answer)
+    (f g : Position → Option X) (asked : Result Coverage D) → ((answer : Answer) → tell answer ≡ tell' answer)
     → IsAsked scope stretch (IsAnyAnswer tell selection) f g asked → IsAsked scope stretch (IsAnyAnswer tell' selection) f g asked
 asked_told {X} {D} scope stretch tell tell' selection f g asked same = by_asked asked
   where
@@ -558,13 +557,12 @@ asked_told {X} {D} scope stretch tell tell' selection f g asked same = by_asked 
     right_back Answered p (inl none) = inl none
     right_back Answered p (inr h) = inr (said_back p (g p) h)
 
-    by_asked : (a : Judged D) → IsAsked scope stretch (IsAnyAnswer tell selection) f g a
+    by_asked : (a : Result Coverage D) → IsAsked scope stretch (IsAnyAnswer tell selection) f g a
         → IsAsked scope stretch (IsAnyAnswer tell' selection) f g a
-    by_asked (Fault told) h = h
-    by_asked (Wrong wrong) h = record {
+    by_asked (Err wrong) h = record {
       section = h.section;
       table = h.table;
       wrong = λ right. h.wrong (right_back scope (stretch wrong).position right);
       least = λ p lt. right_on scope p (h.least p lt);
     }
-    by_asked (Right coverage) h = (λ p. right_on scope p (h.0 p), h.1)
+    by_asked (Ok coverage) h = (λ p. right_on scope p (h.0 p), h.1)

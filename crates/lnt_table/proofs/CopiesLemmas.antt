@@ -1,5 +1,5 @@
 -- What the live sequences that hold a position say, by the spans of each.
-use Rattle.std.proofs.Common.{◌≡◌, ◌∙◌, ℕ, zero, suc, ◌+◌, ◌-◌, ◌<◌, ◌≤◌, Bool, true}
+use Rattle.std.proofs.Common.{◌≡◌, ◌∙◌, ℕ, ◌+◌, ◌-◌, ◌<◌, ◌≤◌, Bool, true}
 use Rattle.std.proofs.Common.{false, List, [], ◌∷◌, ◌++◌, Option, Some, None, ap, sym, refl, subst}
 use Rattle.std.proofs.Common.{arith, length, get_or, take, drop, option_map, ◌⊎◌, inl, inr}
 use Rattle.std.specs.List.{Contains}
@@ -11,9 +11,8 @@ use Rattle.std.proofs.lemmas.Option.{same_Some}
 use Rattle.lnt_machine.specs.declared.row.Row.{Row}
 use Rattle.lnt_spans.specs.declared.answer.Answer.{Answer}
 use Rattle.lnt_spans.specs.declared.position.Position.{Position}
-use Rattle.lnt_spans.specs.declared.span.Span.{Span}
 use Rattle.lnt_spans.specs.Positions.{IsAtMost, IsBelow}
-use Rattle.lnt_spans.specs.Spans.{AreInOrder, span_answer}
+use Rattle.lnt_spans.specs.Spans.{span_answer}
 use Rattle.lnt_spans.proofs.PositionLaws.{at_most_trans, below_at_most, not_both, order_cases}
 use Rattle.lnt_sequences.specs.declared.extent.Extent.{Extent}
 use Rattle.lnt_sequences.specs.Copies.{AreExtentsOf, ExtentsOfSequences, IsAnyAnswer, IsSaid}

@@ -1,9 +1,7 @@
 -- Tables by path that are right wherever they answer, and answer all of a section's addresses.
-use Rattle.std.proofs.Common.{◌≡◌, ◌∙◌, ◌≤◌, ◌^◌, ℕ, List, [], ◌∷◌, Option, None, option_map, inl, inr, refl, sym, ap}
+use Rattle.std.proofs.Common.{◌∙◌, ℕ, List, [], ◌∷◌, option_map, inl, inr, refl, sym, ap}
 use Rattle.std.specs.List.{AllByRecursion, AllZip}
-use Rattle.lnt_header.specs.declared.unit_parts.UnitParts.{UnitParts}
 use Rattle.lnt_spans.specs.declared.answer.Answer.{Answer}
-use Rattle.lnt_spans.specs.declared.position.Position.{Position}
 use Rattle.lnt_spans.specs.Laws.{AnswersAddresses, ChangesAtInstructions}
 use Rattle.lnt_spans.specs.Partial.{whole}
 use Rattle.lnt_spans.specs.SpanKinds.{answer_held}
@@ -11,21 +9,15 @@ use Rattle.lnt_spans.specs.declared.span.Span.{Span}
 use Rattle.lnt_spans.proofs.CountLemmas.{fitting_spans, instruction_spans, kind_spans}
 use Rattle.lnt_spans.proofs.PartialLemmas.{all_answered}
 use Rattle.lnt_sequences.specs.Sequences.{Selection, line_answer}
-use Rattle.lnt_records.specs.Faults.{IsUnnumbered}
 use Rattle.lnt_records.specs.PathSpans.{PathSpan, path_spans}
 use Rattle.lnt_records.specs.PathTables.{IsPathRecord, by_path}
-use Rattle.lnt_records.specs.Table.{Fields, IsTableIn, IsTableOfIn, RecordsOf, by_number}
+use Rattle.lnt_records.specs.Table.{Fields, IsTableIn, IsTableOfIn, by_number}
 use Rattle.lnt_records.specs.declared.path_records.version.PathVersion.{PathVersion}
 use Rattle.lnt_records.proofs.BeginningLaws.{table_begins}
-use Rattle.lnt_compare.specs.declared.outcome.Compared.TheVariants.{Same}
 use Rattle.lnt_compare.specs.PathStretches.{IsPathSpanOfInstructions}
-use Rattle.lnt_lines.specs.declared.options.Options.{Options}
-use Rattle.lnt_lines.specs.Good.{IsGood, selected}
-use Rattle.lnt_table.specs.AnyVersion.{IsTrueCheck, IsTrueWithin, told_paths}
+use Rattle.lnt_lines.specs.Good.{selected}
+use Rattle.lnt_table.specs.AnyVersion.{told_paths}
 use Rattle.lnt_table.specs.Laws.{AreOfInstructions, CoveredIsYes}
-use Rattle.lnt_table.specs.declared.kinds.OfKind.TheVariants.{ByPath}
-use Rattle.lnt_table.specs.declared.within.CheckedWithin.TheVariants.{Covered}
-use Rattle.lnt_table.specs.declared.within.Scope.TheVariants.{Answered}
 
 -- ---- the table
 

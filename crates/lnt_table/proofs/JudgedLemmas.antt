@@ -1,25 +1,19 @@
 -- What a table of any version is judged to be is true of the table and of a good section.
-use Rattle.lnt_spans.specs.SpanKinds.{answer_held}
-use Rattle.std.proofs.Common.{◌≡◌, ◌≢◌, ◌-◌, ◌++◌, ℕ, List, [], Option, Some, None, IfSome, arith, inl, inr, refl, subst, MatchOption}
-use Rattle.std.specs.Prelude.{unwrap_or}
+use Rattle.std.proofs.Common.{◌≡◌, ◌≢◌, ◌-◌, ◌++◌, ℕ, List, [], Option, IfSome, arith, inl, inr, refl, subst, Ok, Err}
+use Rattle.lnt_spans.specs.Partial.{addresses_answered, AreCounts, where_missed}
+use Rattle.lnt_spans.proofs.PartialLemmas.{answered_and_missed}
 use Rattle.std.proofs.lemmas.Option.{IfSome_then}
 use Rattle.lnt_spans.specs.declared.difference.Difference.{Difference}
-use Rattle.lnt_spans.specs.declared.found.Found.{Found as FoundSpec}
 use Rattle.lnt_spans.specs.declared.position.Position.{Position}
 use Rattle.lnt_spans.specs.declared.span.Span.{Span}
-use Rattle.lnt_spans.specs.Partial.{addresses_answered, AreCounts, IsFirstMistake, IsRightWherever, where_missed}
-use Rattle.lnt_spans.specs.Differences.{IsFirstDifference}
-use Rattle.lnt_spans.specs.Laws.{AnswerAlike}
-use Rattle.lnt_spans.specs.Merged.{first_of, missed_of, unless}
 use Rattle.lnt_spans.specs.Spans.{span_answer}
-use Rattle.lnt_spans.proofs.PartialLemmas.{answered_and_missed}
 use Rattle.lnt_sequences.specs.Sequences.{line_answer, Selection}
 use Rattle.lnt_records.specs.declared.fault.TableFault.TheVariants as fault
-use Rattle.lnt_compare.specs.Outcomes.{IsOutcome, IsOutcomeOf, Outcome, IsPathOutcome, tables_by_path}
+use Rattle.lnt_compare.specs.Outcomes.{IsOutcome, IsPathOutcome, Outcome, tables_by_path}
 use Rattle.lnt_compare.specs.declared.outcome.Compared.{Compared}
 use Rattle.lnt_compare.specs.declared.outcome.Compared.TheVariants as compared
-use Rattle.lnt_compare.specs.declared.outcome.TableRead.TheVariants as outcome
-use Rattle.lnt_compare.specs.Comparisons.{TableKind, in_versions, tables_by_number}
+use Rattle.lnt_compare.specs.declared.outcome.TableRead.TheVariants.{Fault, Table}
+use Rattle.lnt_compare.specs.Comparisons.{in_versions, tables_by_number}
 use Rattle.lnt_records.specs.Faults.{IsUnnumbered}
 use Rattle.lnt_compare.specs.Passing.{Passes}
 use Rattle.lnt_records.specs.Table.{by_number, column_names}
@@ -41,24 +35,22 @@ use Rattle.lnt_lines.specs.Judging.{IsIndexOfSection}
 use Rattle.lnt_lines.specs.Good.{selected}
 use Rattle.lnt_lines.specs.Indexed.{Indexed, IsIndexOf, OfUnits}
 use Rattle.lnt_table.specs.Verdicts.{verdict_of}
-use Rattle.lnt_table.specs.declared.judged.Judged.{Judged}
-use Rattle.lnt_table.specs.declared.judged.Judged.TheVariants.{Fault, Right, Wrong}
 use Rattle.lnt_table.specs.declared.kinds.OfKind.TheVariants.{Numbered, ByPath}
 use Rattle.lnt_table.specs.declared.verdict.TableNo.TheVariants as no
 use Rattle.lnt_table.specs.declared.verdict.Verdict.TheVariants.{No}
 use Rattle.lnt_table.specs.declared.within.CheckedWithin.{CheckedWithin}
 use Rattle.lnt_table.specs.declared.within.CheckedWithin.TheVariants.{Checked as Told, Covered}
-use Rattle.lnt_table.specs.declared.within.Coverage.{Coverage}
-use Rattle.lnt_table.specs.declared.within.Scope.{Scope}
-use Rattle.lnt_table.specs.declared.within.Scope.TheVariants.{All, Answered}
-use Rattle.lnt_table.specs.AnyVersion.{coverage_but, IsOfScope, IsTrueOfSectionWithin, IsTrueWithin}
+use Rattle.lnt_spans.specs.declared.scope.Coverage.{Coverage}
+use Rattle.lnt_spans.specs.declared.scope.Scope.{Scope}
+use Rattle.lnt_spans.specs.declared.scope.Scope.TheVariants.{All, Answered}
+use Rattle.lnt_table.specs.AnyVersion.{IsOfScope, IsTrueOfSectionWithin, IsTrueWithin}
 use Rattle.lnt_table.specs.Headline.{indexed_path, told_path}
-use Rattle.lnt_table.specs.Judged.{IsJudgedOf, IsJudgedWith, judged_by, judged_in, JudgedOfKind, told_in, wrong_in}
+use Rattle.lnt_table.specs.Judged.{IsJudgedWith, JudgedOfKind, told_in}
 use Rattle.lnt_table.proofs.AnyLawLemmas.{names_differ}
 use Rattle.lnt_table.proofs.CheckLemmas.{none_of_section, section_told, same_in_version}
 use Rattle.lnt_table.proofs.UnitPathLemmas.{told_by_units}
 
--- ---- a comparison in a scope
+-- ---- how much is answered
 
 -- of the section's addresses, the table answers at all but the missed ones
 pub counts_of : {X : Type 0} (by_table by_section : Position → Option X) (all missed : ℕ) → all ≡ addresses_answered by_section
@@ -66,115 +58,59 @@ pub counts_of : {X : Type 0} (by_table by_section : Position → Option X) (all 
 counts_of by_table by_section all missed section out =
     record { both = omega (arith, section, out, answered_and_missed by_table by_section); section = section }
 
--- What was found says that the two answer alike, and else their first difference.
-found_whole : {V X Y D : Type 0} (kind : TableKind V X Y D) (section : V → Position → Option Y) (bytes : List ℕ) (found : FoundSpec D)
-    → IsOutcomeOf kind section bytes (outcome.Table found)
-    → IsJudgedOf kind All section bytes (judged_in All (outcome.Table found))
-found_whole {V} {X} {Y} {D} kind section bytes found h = by_first (first_of found) h.so.first
-  where
-    by_first : (first : Option D) → MatchOption first (AnswerAlike (section h.version) (answer_held kind.spans h.table))
-        (λ first. IsFirstDifference (section h.version) (answer_held kind.spans h.table) (kind.stretch first))
-        → IsJudgedOf kind All section bytes (judged_by first (coverage_but (unwrap_or (missed_of found) 0) found.all))
-    by_first None alike = record { version = h.version; table = h.table; is_table = h.is_table; so = alike }
-    by_first (Some first) least = record { version = h.version; table = h.table; is_table = h.is_table; so = least }
-
--- What was found says how much a table answers that is right wherever it answers, and else its first mistake.
-found_part : {V X Y D : Type 0} (kind : TableKind V X Y D) (section : V → Position → Option Y) (bytes : List ℕ) (found : FoundSpec D)
-    → IsOutcomeOf kind section bytes (outcome.Table found)
-    → IsJudgedOf kind Answered section bytes (judged_in Answered (outcome.Table found))
-found_part {V} {X} {Y} {D} kind section bytes found h = by_mistake found.mistake refl
-  where
-    Mistakes : Option D → Type 0
-    Mistakes mistake = MatchOption mistake (IsRightWherever (answer_held kind.spans h.table) (section h.version))
-        (λ mistake. IsFirstMistake (answer_held kind.spans h.table) (section h.version) (kind.stretch mistake))
-
-    by_mistake : (mistake : Option D) → found.mistake ≡ mistake
-        → IsJudgedOf kind Answered section bytes (judged_by mistake (coverage_but (unwrap_or (unless mistake found.missed) 0) found.all))
-    by_mistake None e = record {
-      version = h.version;
-      table = h.table;
-      is_table = h.is_table;
-      so = (
-        subst Mistakes e h.so.mistake,
-        counts_of (answer_held kind.spans h.table) (section h.version) found.all found.missed (h.so.all e) (h.so.missed e),
-      );
-    }
-    by_mistake (Some mistake) e =
-        record { version = h.version; table = h.table; is_table = h.is_table; so = subst Mistakes e h.so.mistake }
-
-judged_so : {V X Y D : Type 0} (kind : TableKind V X Y D) (scope : Scope) (section : V → Position → Option Y) (bytes : List ℕ)
-    (told : Outcome D) → IsOutcomeOf kind section bytes told → IsJudgedOf kind scope section bytes (judged_in scope told)
-judged_so kind All section bytes (outcome.Fault told) h = h
-judged_so kind All section bytes (outcome.Table found) h = found_whole kind section bytes found h
-judged_so kind Answered section bytes (outcome.Fault told) h = h
-judged_so kind Answered section bytes (outcome.Table found) h = found_part kind section bytes found h
-
--- The table is judged to have no header only where the comparison comes to that fault.
-header_judged : (scope : Scope) (told : Outcome Difference) → judged_in scope told ≡ Fault fault.Header
-    → told ≡ outcome.Fault fault.Header
-header_judged scope (outcome.Fault told) e = cc
-header_judged scope (outcome.Table found) e = absurd (by_wrong (wrong_in scope found) _ e)
-  where
-    by_wrong : (wrong : Option Difference) (coverage : Coverage) → judged_by wrong coverage ≡ Fault fault.Header → ⊥
-    by_wrong None coverage e = cc e
-    by_wrong (Some wrong) coverage e = cc e
-
 -- ---- the comparison with an index
 
 -- a table with the header of version 1 or 2
 pub numbered_with : (bytes : List ℕ) (index : Indexed) (selection : Selection) (scope : Scope) (spans : List Span)
-    (told : Outcome Difference) (judged : Judged Difference) → judged ≡ judged_in scope told
-    → ((p : Position) → span_answer spans p ≡ line_answer selection p)
-    → IsOutcome bytes spans told × (told ≢ outcome.Fault fault.Header) → IsJudgedWith index selection scope bytes (Numbered judged)
-numbered_with bytes index selection scope spans told judged is_judged answers is = rw is_judged (
-  judged_so tables_by_number scope (in_versions (line_answer selection)) bytes told
-      (outcome_of_alike tables_by_number bytes (in_versions (span_answer spans)) (in_versions (line_answer selection)) told
-      (λ version. same_in_version version selection spans answers) is.0),
-  λ e. is.1 (header_judged scope told e),
+    (told : Outcome Difference) → ((p : Position) → span_answer spans p ≡ line_answer selection p)
+    → IsOutcome scope bytes spans told × (told ≢ Fault fault.Header) → IsJudgedWith index selection scope bytes (Numbered told)
+numbered_with bytes index selection scope spans told answers is = (
+  outcome_of_alike tables_by_number scope bytes (in_versions (span_answer spans)) (in_versions (line_answer selection)) told
+      (λ version. same_in_version version selection spans answers) is.0,
+  is.1,
 )
 
 -- one with neither header
 pub pathed_with : (bytes : List ℕ) (index : Indexed) (selection : Selection) (scope : Scope) (spans : List Span)
-    (told : Outcome DifferenceByPath) (judged : Judged DifferenceByPath) → judged ≡ judged_in scope told
-    → IsIndexOf selection index → IsUnnumbered bytes → ((p : Position) → span_answer spans p ≡ line_answer selection p)
-    → IsPathOutcome bytes (λ version. spans_by_path version (indexed_path index) spans) told
-    → IsJudgedWith index selection scope bytes (ByPath judged)
-pathed_with bytes index selection scope spans told judged is_judged is other answers h = rw is_judged (
+    (told : Outcome DifferenceByPath) → IsIndexOf selection index → IsUnnumbered bytes
+    → ((p : Position) → span_answer spans p ≡ line_answer selection p)
+    → IsPathOutcome scope bytes (λ version. spans_by_path version (indexed_path index) spans) told
+    → IsJudgedWith index selection scope bytes (ByPath told)
+pathed_with bytes index selection scope spans told is other answers h = (
   other,
-  judged_so tables_by_path scope (λ version. told_path version index selection) bytes told
-      (outcome_of_alike tables_by_path bytes (λ version. spans_by_path version (indexed_path index) spans)
+  outcome_of_alike tables_by_path scope bytes (λ version. spans_by_path version (indexed_path index) spans)
       (λ version. told_path version index selection) told
-      (λ version. told_by_units version index selection spans is answers) h),
+      (λ version. told_by_units version index selection spans is answers) h,
 )
 
 -- The table's first line is a header of version 1 or 2, and this holds of its other bytes.
 pub begun_by_number : (text more : Option (List ℕ)) (may_give may_still : ℕ) (first window : List ℕ) (version : Version) (index : Indexed)
-    (selection : Selection) (scope : Scope) (spans : List Span) (told : Outcome Difference) (judged : Judged Difference)
-    → judged ≡ judged_in scope told → Passes text more may_give may_still [] first []
+    (selection : Selection) (scope : Scope) (spans : List Span) (told : Outcome Difference)
+    → Passes text more may_give may_still [] first []
     → first ≡ line_text (column_names version) ++ window → ((p : Position) → span_answer spans p ≡ line_answer selection p)
-    → IfSome more (λ rest. IsOutcome (line_text (column_names version) ++ (window ++ rest)) spans told)
-    → IfSome text (λ bytes. IsJudgedWith index selection scope bytes (Numbered judged))
-begun_by_number text more may_give may_still first window version index selection scope spans told judged is_judged passes here answers h =
+    → IfSome more (λ rest. IsOutcome scope (line_text (column_names version) ++ (window ++ rest)) spans told)
+    → IfSome text (λ bytes. IsJudgedWith index selection scope bytes (Numbered told))
+begun_by_number text more may_give may_still first window version index selection scope spans told passes here answers h =
     let line : List ℕ = line_text (column_names version) in
-    line_taken text more may_give may_still first line window (λ bytes. IsJudgedWith index selection scope bytes (Numbered judged)) passes
-    here (IfSome_then more h (λ rest o. numbered_with (line ++ (window ++ rest)) index selection scope spans told judged is_judged answers (
+    line_taken text more may_give may_still first line window (λ bytes. IsJudgedWith index selection scope bytes (Numbered told)) passes
+    here (IfSome_then more h (λ rest o. numbered_with (line ++ (window ++ rest)) index selection scope spans told answers (
       o,
-      not_header (line ++ (window ++ rest)) version spans told
+      not_header scope (line ++ (window ++ rest)) version spans told
           (lines.header_begins by_number plain_by_number plain_numbers version (window ++ rest)) o,
     )))
 
 -- The same of a header of version 3 or 4.
 pub begun_by_path : (text more : Option (List ℕ)) (may_give may_still : ℕ) (first window : List ℕ) (version : PathVersion) (index : Indexed)
-    (selection : Selection) (scope : Scope) (spans : List Span) (told : Outcome DifferenceByPath) (judged : Judged DifferenceByPath)
-    → judged ≡ judged_in scope told → IsIndexOf selection index → Passes text more may_give may_still [] first []
+    (selection : Selection) (scope : Scope) (spans : List Span) (told : Outcome DifferenceByPath)
+    → IsIndexOf selection index → Passes text more may_give may_still [] first []
     → first ≡ line_text (path_column_names version) ++ window → ((p : Position) → span_answer spans p ≡ line_answer selection p)
-    → IfSome more (λ rest. IsPathOutcome (line_text (path_column_names version) ++ (window ++ rest))
+    → IfSome more (λ rest. IsPathOutcome scope (line_text (path_column_names version) ++ (window ++ rest))
     (λ version. spans_by_path version (indexed_path index) spans) told)
-    → IfSome text (λ bytes. IsJudgedWith index selection scope bytes (ByPath judged))
-begun_by_path text more may_give may_still first window version index selection scope spans told judged is_judged is passes here answers h =
+    → IfSome text (λ bytes. IsJudgedWith index selection scope bytes (ByPath told))
+begun_by_path text more may_give may_still first window version index selection scope spans told is passes here answers h =
     let line : List ℕ = line_text (path_column_names version) in
-    line_taken text more may_give may_still first line window (λ bytes. IsJudgedWith index selection scope bytes (ByPath judged)) passes
-    here (IfSome_then more h (λ rest o. pathed_with (line ++ (window ++ rest)) index selection scope spans told judged is_judged is
+    line_taken text more may_give may_still first line window (λ bytes. IsJudgedWith index selection scope bytes (ByPath told)) passes
+    here (IfSome_then more h (λ rest o. pathed_with (line ++ (window ++ rest)) index selection scope spans told is
     (λ v begins. names_differ v version (one_beginning (line ++ (window ++ rest)) (column_names v) (path_column_names version) begins
     (header_begins version (window ++ rest)))) answers o))
 
@@ -199,31 +135,43 @@ within_told All line general options section table index (Numbered (Fault (fault
     (record { units = i.units; good = i.good; so = h.0 }, λ e. cc e)
 within_told All line general options section table index (Numbered (Fault (fault.Order k))) i h =
     (record { units = i.units; good = i.good; so = h.0 }, λ e. cc e)
-within_told All line general options section table index (Numbered (Wrong first)) i h =
+within_told All line general options section table index (Numbered (Table (Err first))) i h =
     (record { units = i.units; good = i.good; so = h.0 }, λ e. cc e)
-within_told All line general options section table index (Numbered (Right coverage)) i h =
-    (record { units = i.units; good = i.good; so = h.0 }, λ e. cc e)
+within_told All line general options section table index (Numbered (Table (Ok coverage))) i h = (
+  record {
+    units = i.units;
+    good = i.good;
+    so = record { version = h.0.version; table = h.0.table; is_table = h.0.is_table; so = h.0.so.0 };
+  },
+  λ e. cc e,
+)
 within_told Answered line general options section table index (Numbered (Fault (fault.Fields k))) i h =
     (record { units = i.units; good = i.good; so = h.0 }, λ e. cc e)
 within_told Answered line general options section table index (Numbered (Fault (fault.Number k n))) i h =
     (record { units = i.units; good = i.good; so = h.0 }, λ e. cc e)
 within_told Answered line general options section table index (Numbered (Fault (fault.Order k))) i h =
     (record { units = i.units; good = i.good; so = h.0 }, λ e. cc e)
-within_told Answered line general options section table index (Numbered (Wrong mistake)) i h =
+within_told Answered line general options section table index (Numbered (Table (Err mistake))) i h =
     record { units = i.units; good = i.good; so = h.0 }
-within_told Answered line general options section table index (Numbered (Right coverage)) i h =
+within_told Answered line general options section table index (Numbered (Table (Ok coverage))) i h =
     inl (record { units = i.units; good = i.good; so = h.0 })
 within_told All line general options section table index (ByPath (Fault told)) i h =
     (h.0, record { units = i.units; good = i.good; so = h.1 })
-within_told All line general options section table index (ByPath (Wrong first)) i h =
+within_told All line general options section table index (ByPath (Table (Err first))) i h =
     (h.0, record { units = i.units; good = i.good; so = h.1 })
-within_told All line general options section table index (ByPath (Right coverage)) i h =
-    (h.0, record { units = i.units; good = i.good; so = h.1 })
+within_told All line general options section table index (ByPath (Table (Ok coverage))) i h = (
+  h.0,
+  record {
+    units = i.units;
+    good = i.good;
+    so = record { version = h.1.version; table = h.1.table; is_table = h.1.is_table; so = h.1.so.0 };
+  },
+)
 within_told Answered line general options section table index (ByPath (Fault told)) i h =
     (h.0, record { units = i.units; good = i.good; so = h.1 })
-within_told Answered line general options section table index (ByPath (Wrong mistake)) i h =
+within_told Answered line general options section table index (ByPath (Table (Err mistake))) i h =
     (h.0, record { units = i.units; good = i.good; so = h.1 })
-within_told Answered line general options section table index (ByPath (Right coverage)) i h =
+within_told Answered line general options section table index (ByPath (Table (Ok coverage))) i h =
     inr (h.0, record { units = i.units; good = i.good; so = h.1 })
 
 -- the same for sources whose bytes are known
@@ -246,13 +194,13 @@ answer_so : (IsSo : CheckedWithin → Scope → Type 0)
     → ((coverage : Coverage) → IsSo (Covered coverage) Answered)
     → (scope : Scope) (told : JudgedOfKind) → IsSo (told_in scope told) scope
 answer_so IsSo numbered by_path covered scope (Numbered (Fault told)) = numbered (compared.Fault told) scope
-answer_so IsSo numbered by_path covered scope (Numbered (Wrong wrong)) = numbered (compared.Differs wrong) scope
-answer_so IsSo numbered by_path covered All (Numbered (Right coverage)) = numbered compared.Same All
-answer_so IsSo numbered by_path covered Answered (Numbered (Right coverage)) = covered coverage
+answer_so IsSo numbered by_path covered scope (Numbered (Table (Err wrong))) = numbered (compared.Differs wrong) scope
+answer_so IsSo numbered by_path covered All (Numbered (Table (Ok coverage))) = numbered compared.Same All
+answer_so IsSo numbered by_path covered Answered (Numbered (Table (Ok coverage))) = covered coverage
 answer_so IsSo numbered by_path covered scope (ByPath (Fault told)) = by_path (compared.Fault told) scope
-answer_so IsSo numbered by_path covered scope (ByPath (Wrong wrong)) = by_path (compared.Differs wrong) scope
-answer_so IsSo numbered by_path covered All (ByPath (Right coverage)) = by_path compared.Same All
-answer_so IsSo numbered by_path covered Answered (ByPath (Right coverage)) = covered coverage
+answer_so IsSo numbered by_path covered scope (ByPath (Table (Err wrong))) = by_path (compared.Differs wrong) scope
+answer_so IsSo numbered by_path covered All (ByPath (Table (Ok coverage))) = by_path compared.Same All
+answer_so IsSo numbered by_path covered Answered (ByPath (Table (Ok coverage))) = covered coverage
 
 -- what it says of the section
 pub section_within : (line general : List ℕ) (options : Options) (section : Option (List ℕ)) (index : Indexed)

@@ -1,5 +1,5 @@
 -- All true answers of `check_within` for one section, one table and one scope say the same.
-use Rattle.std.proofs.Common.{◌≡◌, ◌≢◌, ◌∙◌, ℕ, List, Option, None, Some, IsSome, inl, inr, refl, sym, ap, subst, ◌⊎◌}
+use Rattle.std.proofs.Common.{◌≡◌, ◌≢◌, ◌∙◌, ℕ, List, Option, None, IsSome, inl, inr, refl, sym, ap, subst, ◌⊎◌}
 use Rattle.std.proofs.lemmas.Bool.{false≢true}
 use Rattle.lnt_header.specs.declared.unit_parts.UnitParts.{UnitParts}
 use Rattle.lnt_unit.proofs.UnitLaws.{same_units}
@@ -21,9 +21,8 @@ use Rattle.lnt_records.proofs.NumberLaws.{numbered}
 use Rattle.lnt_records.proofs.PathLaws.{pathed}
 use Rattle.lnt_records.proofs.TableLaws.{FormatLaws, no_fault, one_fault}
 use Rattle.lnt_compare.specs.declared.path_tables.answer.DifferenceByPath.{DifferenceByPath}
-use Rattle.lnt_compare.specs.declared.outcome.Compared.{Compared}
 use Rattle.lnt_compare.specs.declared.outcome.Compared.TheVariants.{Same, Fault, Differs}
-use Rattle.lnt_compare.specs.Comparisons.{TableKind, stretch_told, tables_by_number}
+use Rattle.lnt_compare.specs.Comparisons.{TableKind, tables_by_number}
 use Rattle.lnt_compare.specs.Outcomes.{tables_by_path}
 use Rattle.lnt_compare.specs.PathStretches.{stretch_of}
 use Rattle.lnt_compare.proofs.ComparedLaws.{where_both}
@@ -31,15 +30,15 @@ use Rattle.lnt_lines.specs.declared.no.No as section
 use Rattle.lnt_lines.specs.declared.options.Options.{Options}
 use Rattle.lnt_lines.specs.Laws.{GoodHasNoFlaw, OneNo}
 use Rattle.lnt_lines.specs.Nos.{IsTrueNo}
-use Rattle.lnt_table.specs.Verdicts.{Checked, no_of_fault, Verdict}
+use Rattle.lnt_table.specs.Verdicts.{Checked, no_of_fault}
 use Rattle.lnt_table.specs.declared.kinds.OfKind.TheVariants.{Numbered, ByPath}
 use Rattle.lnt_table.specs.declared.verdict.TableNo.TheVariants as no
 use Rattle.lnt_table.specs.declared.verdict.Verdict.TheVariants.{No, Yes}
 use Rattle.lnt_table.specs.declared.within.CheckedWithin.{CheckedWithin}
 use Rattle.lnt_table.specs.declared.within.CheckedWithin.TheVariants.{Checked as Told, Covered}
-use Rattle.lnt_table.specs.declared.within.Coverage.{Coverage}
-use Rattle.lnt_table.specs.declared.within.Scope.{Scope}
-use Rattle.lnt_table.specs.declared.within.Scope.TheVariants.{All, Answered}
+use Rattle.lnt_spans.specs.declared.scope.Coverage.{Coverage}
+use Rattle.lnt_spans.specs.declared.scope.Scope.{Scope}
+use Rattle.lnt_spans.specs.declared.scope.Scope.TheVariants.{All, Answered}
 use Rattle.lnt_table.specs.AnyVersion.{IsMistakenOf, IsRightOf, IsTrueWithin, told_paths}
 use Rattle.lnt_table.specs.Headline.{IsGoodWith, told_rows}
 use Rattle.lnt_table.specs.Laws.{OneCheck, OneWithin, SayTheSame, SayTheSameWithin}

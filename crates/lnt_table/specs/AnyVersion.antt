@@ -2,7 +2,7 @@
 --     line, general    the bytes of .debug_line_str and of .debug_str
 --     section, table   the bytes of .debug_line, and those of the address table
 use Rattle.lnt_spans.specs.SpanKinds.{answer_held}
-use Rattle.std.specs.Prelude.{◌≢◌, ℕ, List, Option, ◌⊎◌, ◌-◌, Bool, false, true}
+use Rattle.std.specs.Prelude.{◌≢◌, ℕ, List, Option, ◌⊎◌}
 use Rattle.lnt_header.specs.declared.unit_parts.UnitParts.{UnitParts}
 use Rattle.lnt_spans.specs.declared.position.Position.{Position}
 use Rattle.lnt_compare.specs.declared.outcome.Compared.{Compared}
@@ -23,9 +23,9 @@ use Rattle.lnt_spans.specs.Partial.{AreCounts, IsFirstMistake, IsRightWherever}
 use Rattle.lnt_compare.specs.declared.outcome.Compared.TheVariants.{Same, Fault, Differs}
 use Rattle.lnt_table.specs.declared.within.CheckedWithin.{CheckedWithin}
 use Rattle.lnt_table.specs.declared.within.CheckedWithin.TheVariants.{Checked as Told, Covered}
-use Rattle.lnt_table.specs.declared.within.Coverage.{Coverage}
-use Rattle.lnt_table.specs.declared.within.Scope.{Scope}
-use Rattle.lnt_table.specs.declared.within.Scope.TheVariants.{All, Answered}
+use Rattle.lnt_spans.specs.declared.scope.Coverage.{Coverage}
+use Rattle.lnt_spans.specs.declared.scope.Scope.{Scope}
+use Rattle.lnt_spans.specs.declared.scope.Scope.TheVariants.{All, Answered}
 
 -- the answers of a section's rows by path, with the full path of each file, for the options
 abbrev pub told_paths : List ℕ → List ℕ → Options → List (ℕ × UnitParts) → PathVersion → Position → Option PathAnswer
@@ -69,16 +69,7 @@ IsMistakenOf kind section table mistake =
     IsTableWhere kind.format (answer_held kind.spans) section table
     (λ by_section by_table. IsFirstMistake by_table by_section (kind.stretch mistake))
 
--- how much of a section a table answers that misses so many of its addresses
-abbrev pub coverage_but : ℕ → ℕ → Coverage
-coverage_but missed all = record { answered = all - missed; all = all }
-
 -- ---- the answers
-
--- the positions at which a table is compared with the section: those at which it answers, if the check is partial
-abbrev pub scope_in : Bool → Scope
-scope_in false = All
-scope_in true = Answered
 
 -- The table isn't right wherever it answers, or something else is wrong, and this is the first reason.
 abbrev pub IsTruePart : List ℕ → List ℕ → Options → List ℕ → List ℕ → Checked → Type 0

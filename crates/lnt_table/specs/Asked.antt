@@ -1,6 +1,6 @@
 -- What is said of asking the live sequences for the answers of a table, stretch by stretch.
 use Rattle.std.specs.Prelude.{◌≡◌, ℕ, ◌+◌, ◌<◌, ◌≤◌, Bool, true, false, List, [], ◌∷◌, length, get_or, Option, Some, None}
-use Rattle.std.specs.Prelude.{Contains, MatchOption, unwrap_or}
+use Rattle.std.specs.Prelude.{Contains, MatchOption, Result, Ok, Err, unwrap_or}
 use Rattle.lnt_spans.specs.declared.answer.Answer.{Answer}
 use Rattle.lnt_spans.specs.declared.position.Position.{Position}
 use Rattle.lnt_spans.specs.AnyStretches.{Stretch}
@@ -12,10 +12,9 @@ use Rattle.lnt_sequences.specs.Sequences.{answer_in, live_sequences, Placed, Sel
 use Rattle.lnt_lines.specs.Cursors.{AreToCome, Cursor}
 use Rattle.lnt_lines.specs.Indexed.{IsIndexOf, Indexed}
 use Rattle.lnt_table.specs.declared.copies.Copies.{Copies}
-use Rattle.lnt_table.specs.declared.within.Scope.{Scope}
-use Rattle.lnt_table.specs.declared.within.Scope.TheVariants.{All, Answered}
-use Rattle.lnt_table.specs.declared.judged.Judged.{Judged}
-use Rattle.lnt_table.specs.declared.judged.Judged.TheVariants.{Fault, Right, Wrong}
+use Rattle.lnt_spans.specs.declared.scope.Scope.{Scope}
+use Rattle.lnt_spans.specs.declared.scope.Scope.TheVariants.{All, Answered}
+use Rattle.lnt_spans.specs.declared.scope.Coverage.{Coverage}
 use Rattle.lnt_table.specs.declared.said.SequenceSpans.{SequenceSpans}
 use Rattle.lnt_table.specs.declared.wrong.Piece.{Piece}
 use Rattle.lnt_table.specs.AnyCopy.{IsFirstWrong, IsRightIn}
@@ -119,10 +118,9 @@ FindsTurn is_said said WereReady AreNowReady told low high found = WereReady tol
 
 -- The table is wrong at this position first; or it is right at each position of the scope, and answers so much.
 abbrev pub IsAsked : {X D : Type 0} → Scope → (D → Stretch X) → (Position → Option X → Type 0) → (Position → Option X)
-    → (Position → Option X) → Judged D → Type 0
-IsAsked scope stretch said by_section by_table (Fault told) = ⊥
-IsAsked scope stretch said by_section by_table (Wrong wrong) = IsFirstWrong scope said by_section by_table (stretch wrong)
-IsAsked scope stretch said by_section by_table (Right coverage) = ((p : Position) → IsRightIn scope said by_table p)
+    → (Position → Option X) → Result Coverage D → Type 0
+IsAsked scope stretch said by_section by_table (Err wrong) = IsFirstWrong scope said by_section by_table (stretch wrong)
+IsAsked scope stretch said by_section by_table (Ok coverage) = ((p : Position) → IsRightIn scope said by_table p)
     × AreCounts by_table by_section coverage.answered coverage.all
 
 -- what is left of a stretch at which the table doesn't answer, if it counts

@@ -10,12 +10,11 @@ use Rattle.lnt_records.specs.Faults.{IsFaultIn, IsUnnumbered}
 use Rattle.lnt_records.specs.PathSpans.{path_answer}
 use Rattle.lnt_compare.specs.declared.path_tables.answer.DifferenceByPath.{DifferenceByPath}
 use Rattle.lnt_compare.specs.Comparisons.{in_versions, TableKind, tables_by_number}
-use Rattle.lnt_compare.specs.Outcomes.{tables_by_path}
+use Rattle.lnt_compare.specs.Outcomes.{Outcome, tables_by_path}
 use Rattle.lnt_lines.specs.Indexed.{Indexed}
-use Rattle.lnt_table.specs.declared.judged.Judged.{Judged}
-use Rattle.lnt_table.specs.declared.judged.Judged.TheVariants.{Fault}
+use Rattle.lnt_compare.specs.declared.outcome.TableRead.TheVariants.{Fault, Table}
 use Rattle.lnt_table.specs.declared.kinds.OfKind.TheVariants.{ByPath, Numbered}
-use Rattle.lnt_table.specs.declared.within.Scope.{Scope}
+use Rattle.lnt_spans.specs.declared.scope.Scope.{Scope}
 use Rattle.lnt_table.specs.AnyCopy.{IsTableAmong}
 use Rattle.lnt_table.specs.Asked.{IsAsked}
 use Rattle.lnt_table.specs.Headline.{path_at, told_path}
@@ -23,19 +22,19 @@ use Rattle.lnt_table.specs.Judged.{JudgedOfKind}
 
 -- The bytes are a table, and this is what asking for its answers comes to; or this is their first fault.
 abbrev pub IsReadOf : {V X Y D : Type 0} → TableKind V X Y D → Scope → (V → Position → Option Y → Type 0) → (V → Position → Option Y)
-    → List ℕ → Judged D → Type 0
+    → List ℕ → Outcome D → Type 0
 IsReadOf kind scope said section bytes (Fault told) = IsFaultIn kind.format bytes told
-IsReadOf kind scope said section bytes asked = IsTableAmong kind said section bytes
+IsReadOf kind scope said section bytes (Table asked) = IsTableAmong kind said section bytes
     (λ said by_section by_table. IsAsked scope kind.stretch said by_section by_table asked)
 
 -- a table by number with the header of version 1 or 2
-abbrev pub IsReadByNumber : Selection → Scope → List ℕ → Judged Difference → Type 0
+abbrev pub IsReadByNumber : Selection → Scope → List ℕ → Outcome Difference → Type 0
 IsReadByNumber selection scope table read =
     IsReadOf tables_by_number scope (λ version. IsAnyAnswer (in_version version) selection) (in_versions (line_answer selection)) table read
     × (read ≢ Fault fault.Header)
 
 -- a table by path
-abbrev pub IsReadByPath : Indexed → Selection → Scope → List ℕ → Judged DifferenceByPath → Type 0
+abbrev pub IsReadByPath : Indexed → Selection → Scope → List ℕ → Outcome DifferenceByPath → Type 0
 IsReadByPath index selection scope table read = IsReadOf tables_by_path scope
     (λ version. IsAnyAnswer (path_answer version (path_at index.line index.general selection.units)) selection)
     (λ version. told_path version index selection) table read

@@ -8,7 +8,7 @@ use Rattle.lnt_spans.specs.Positions.{IsAtMost, IsBelow}
 use Rattle.lnt_sequences.specs.Copies.{AreExtentsOf, IsAnyAnswer}
 use Rattle.lnt_sequences.specs.Sequences.{line_answer, live_sequences, Selection}
 use Rattle.lnt_lines.specs.Indexed.{IsIndexOf}
-use Rattle.lnt_table.specs.declared.within.Scope.{Scope}
+use Rattle.lnt_spans.specs.declared.scope.Scope.{Scope}
 use Rattle.lnt_table.specs.declared.wrong.WrongStretches.{WrongStretches}
 use Rattle.lnt_table.specs.AnyCopy.{AreFirstWrong, IsRightIn, IsRightOrIn}
 use Rattle.lnt_table.specs.Asked.{AreCopies, AreReady}

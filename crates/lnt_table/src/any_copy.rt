@@ -16,16 +16,18 @@ ghost use Rattle.lnt_table.specs.Headline.{indexed_path, told_path};
 
 use crate::any_differing::differences_by_path;
 use crate::asked::ask;
-use crate::judged::{Judged, JudgedOfKind};
+use crate::judged::JudgedOfKind;
 use crate::kept::{ByNumber, ByPath};
 use crate::kinds::OfKind;
 use crate::verdict::{TableNo, Verdict};
-use crate::within::{CheckedWithin, Scope};
-use lnt_compare::{DifferenceByPath, HeldSpan, TableRead, Window, differ_records, hold_table};
+use crate::within::CheckedWithin;
+use lnt_compare::{
+    DifferenceByPath, HeldSpan, Outcome, TableRead, Window, differ_records, hold_table,
+};
 use lnt_io::{Source, Stop};
 use lnt_lines::{Index, JudgedIndex, Options, index_with_copies};
 use lnt_records::{PathVersion, header_of};
-use lnt_spans::{Difference, Version};
+use lnt_spans::{Coverage, Difference, Scope, Version};
 use lnt_wire::Strings;
 use std::alloc::{AllocError, Global};
 
@@ -121,19 +123,19 @@ fn ask_numbers(
     index: &Index<'_>,
     version: Version,
     scope: Scope,
-) -> Result<Judged<Difference>, AllocError>
+) -> Result<Outcome<Difference>, AllocError>
     requires { BeginsWith text.now (column_names version ∷ []) }
     ensures { IfOk result (λ read. OfLive index.now (λ selection. IsReadByNumber selection scope text.now read)) }
 {
     match differ_records(alloc, text, index.spans())? {
-        TableRead::Fault(fault) => Ok(Judged::Fault(fault)),
+        TableRead::Fault(fault) => Ok(TableRead::Fault(fault)),
         TableRead::Table(differences) => {
             let kept = ByNumber {
                 version,
                 differences,
             };
             let asked = ask(alloc, kept, index, scope)?;
-            Ok(asked)
+            Ok(TableRead::Table(asked))
         }
     }
 }
@@ -144,16 +146,16 @@ fn ask_paths(
     text: &[u8],
     index: &Index<'_>,
     scope: Scope,
-) -> Result<Judged<DifferenceByPath>, AllocError>
+) -> Result<Outcome<DifferenceByPath>, AllocError>
     ensures { IfOk result (λ read. OfLive index.now (λ selection. IsReadByPath index.now selection scope text.now read)) }
 {
     match hold_table(alloc, text)? {
-        TableRead::Fault(fault) => Ok(Judged::Fault(fault)),
+        TableRead::Fault(fault) => Ok(TableRead::Fault(fault)),
         TableRead::Table((version, spans)) => {
             let read = ask_held(alloc, &spans, index, version, scope);
             drop(spans);
             let asked = read?;
-            Ok(asked)
+            Ok(TableRead::Table(asked))
         }
     }
 }
@@ -165,7 +167,7 @@ fn ask_held(
     index: &Index<'_>,
     version: PathVersion,
     scope: Scope,
-) -> Result<Judged<DifferenceByPath>, AllocError>
+) -> Result<Result<Coverage, DifferenceByPath>, AllocError>
     requires { StandInOrder (map held_span spans.now) }
     ensures { IfOk result (λ asked. OfLive index.now (λ selection. IsAsked scope path_stretch_of
         (IsAnyAnswer (path_answer version (indexed_path index.now)) selection) (told_path version index.now selection)

@@ -5,11 +5,10 @@ ghost use Rattle.lnt_sequences.specs.Copies.{IsAnyAnswer};
 ghost use Rattle.lnt_sequences.specs.Sequences.{line_answer};
 ghost use Rattle.lnt_table.specs.Asked.{IsAsked, OfLive};
 
-use crate::judged::Judged;
 use crate::kept::KeptStretches;
-use crate::within::Scope;
 use crate::wrong::WrongStretches;
 use lnt_lines::Index;
+use lnt_spans::{Coverage, Scope};
 use std::alloc::{AllocError, Global};
 
 // Asks the live sequences at each stretch at which a table and the section differ.
@@ -18,7 +17,7 @@ pub(crate) fn ask<D: Drop, K: KeptStretches<D> + Drop>(
     kept: K,
     index: &Index<'_>,
     scope: Scope,
-) -> Result<Judged<D>, AllocError>
+) -> Result<Result<Coverage, D>, AllocError>
     requires { (by_section : spec_position.Position → Option K.Told) × (by_table : spec_position.Position → Option K.Told)
         × K.has_given kept by_section by_table [] }
     ensures { IfOk result (λ asked. OfLive index.now (λ selection. (by_section by_table : spec_position.Position → Option K.Told)
@@ -28,7 +27,7 @@ pub(crate) fn ask<D: Drop, K: KeptStretches<D> + Drop>(
 {
     let mut wrong = WrongStretches::of(alloc, kept, index, scope);
     match wrong.next_wrong(alloc)? {
-        Some(ended) => Ok(Judged::Wrong(ended.difference)),
-        None => Ok(Judged::Right(wrong.coverage())),
+        Some(ended) => Ok(Err(ended.difference)),
+        None => Ok(Ok(wrong.coverage())),
     }
 }

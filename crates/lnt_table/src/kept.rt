@@ -6,11 +6,10 @@ ghost use Rattle.lnt_compare.specs.PathStretches.{told_path_answer};
 use crate::copies::Copies;
 use crate::paths::IndexPaths;
 use crate::said::TableAnswer;
-use crate::within::Coverage;
 use lnt_compare::{AnswerByPath, DifferenceByPath, DifferencesByPath};
 use lnt_lines::Index;
 use lnt_records::{PathVersion, Paths};
-use lnt_spans::{Answer, Difference, Differences, Position, SpanSource, Version};
+use lnt_spans::{Answer, Coverage, Difference, Differences, Position, SpanSource, Version};
 use std::alloc::{AllocError, Global};
 
 /// A stretch of positions at which the answers of a table and of a section differ.
@@ -38,7 +37,7 @@ pub trait KeptStretches<D> {
     ghost use Rattle.lnt_spans.specs.Partial.{AreCounts};
     ghost use Rattle.lnt_spans.specs.Positions.{IsAtMost, IsBelow};
     ghost use Rattle.lnt_sequences.specs.Copies.{IsAnyAnswer};
-    ghost use Rattle.lnt_table.specs.declared.within.Coverage.{Coverage as SpecCoverage};
+    ghost use Rattle.lnt_spans.specs.declared.scope.Coverage.{Coverage as SpecCoverage};
     ghost use Rattle.lnt_table.specs.Asked.{AreCopies, AreReady, FindsTurn, OfLive};
 
     ghost Told: { Type 0 };
@@ -137,7 +136,7 @@ impl<S: SpanSource, T: SpanSource> KeptStretches<Difference> for ByNumber<S, T> 
     ghost use Rattle.lnt_spans.specs.Answers.{in_version};
     ghost use Rattle.lnt_spans.specs.Differences.{stretch_of};
     ghost use Rattle.lnt_spans.specs.Stretching.{HasFoundStretches, all_by, missed_by, stretches_left};
-    ghost use Rattle.lnt_table.specs.AnyVersion.{coverage_but};
+    ghost use Rattle.lnt_spans.specs.Partial.{coverage_but};
 
     ghost Told = { SpecAnswer };
 
@@ -264,7 +263,7 @@ impl<'t, 'i, 'a, S: SpanSource> KeptStretches<DifferenceByPath> for ByPath<'t, '
     ghost use Rattle.lnt_records.specs.PathSpans.{PathAnswer, path_answer};
     ghost use Rattle.lnt_compare.specs.Differing.{HasFoundStretchesByPath, path_all_by, path_missed_by, path_stretches_left};
     ghost use Rattle.lnt_compare.specs.PathStretches.{stretch_of, stretches_of};
-    ghost use Rattle.lnt_table.specs.AnyVersion.{coverage_but};
+    ghost use Rattle.lnt_spans.specs.Partial.{coverage_but};
     ghost use Rattle.lnt_table.specs.Headline.{indexed_path};
 
     ghost Told = { PathAnswer };

@@ -47,8 +47,9 @@ pub use kinds::OfKind;
 pub use lnt_compare::{AnswerByPath, Compared, DifferenceByPath};
 pub use lnt_lines::{No, Options, Stop};
 pub use lnt_records::TableFault;
+pub use lnt_spans::{Coverage, Scope};
 pub use verdict::{TableNo, Verdict};
-pub use within::{CheckedWithin, Coverage, Scope, check_within};
+pub use within::{CheckedWithin, check_within};
 
 // Every difference.
 pub use any_differing::{AnyDiffering, differences, differences_any, differences_by_path};

@@ -4,7 +4,8 @@ ghost use Rattle.lnt_lines.specs.declared.no.No.{No as SectionNo};
 ghost use Rattle.lnt_io.specs.declared.stop.Stop.TheVariants.{Read, TooLong};
 ghost use Rattle.lnt_table.specs.FaultTexts.{within_text};
 ghost use Rattle.lnt_table.specs.Judged.{told_right};
-ghost use Rattle.lnt_table.specs.AnyVersion.{IsOfScope, IsTrueOfSectionWithin, IsTrueWithin, coverage_but, scope_in};
+ghost use Rattle.lnt_spans.specs.Partial.{coverage_but, scope_in};
+ghost use Rattle.lnt_table.specs.AnyVersion.{IsOfScope, IsTrueOfSectionWithin, IsTrueWithin};
 ghost use Rattle.lnt_io.specs.Stopping.{IsEitherTooLongOn, CountsFailures};
 
 use crate::any_version::Checked;
@@ -13,63 +14,10 @@ use crate::kinds::OfKind;
 use crate::verdict::{TableNo, Verdict};
 use lnt_io::{Source, Stop};
 use lnt_lines::{JudgedIndex, Options, index_section};
+use lnt_spans::{Coverage, Scope};
 use lnt_wire::Strings;
 use std::alloc::Global;
 use std::fmt;
-
-/// The positions at which a table is compared with a section.
-#[derive(Clone, Copy, Debug, PartialEq, Eq)]
-pub enum Scope {
-    /// All positions.
-    All,
-    /// Those at which the table answers.
-    Answered,
-}
-
-impl Scope {
-    /// The scope of a check that is partial, or isn't.
-    pub fn of(is_partial: bool) -> Scope
-        ensures { result ≡ scope_in is_partial }
-    {
-        if is_partial {
-            Scope::Answered
-        } else {
-            Scope::All
-        }
-    }
-
-    /// The answer of a check if the table is right at all of these positions, and answers this much of the section: `yes`, or how much,
-    /// if not all positions count.
-    pub fn answer_if_right(self, coverage: Coverage, yes: Checked) -> CheckedWithin
-        ensures { result ≡ told_right self coverage yes }
-    {
-        match self {
-            Scope::All => CheckedWithin::Checked(yes),
-            Scope::Answered => CheckedWithin::Covered(coverage),
-        }
-    }
-}
-
-/// How much of a section a table answers. An address counts if its position with operation index 0 does.
-#[derive(Clone, Copy, Debug, PartialEq, Eq)]
-pub struct Coverage {
-    /// The number of addresses, from 0 to 2^64 - 1, at which both answer.
-    pub answered: u128,
-    /// The number of those at which the section does.
-    pub all: u128,
-}
-
-impl Coverage {
-    /// How much of a section a table answers that misses so many of its addresses.
-    pub fn but(missed: u128, all: u128) -> Coverage
-        ensures { result ≡ coverage_but missed all }
-    {
-        Coverage {
-            answered: all.saturating_sub(missed),
-            all,
-        }
-    }
-}
 
 /// The answer of `check_within`.
 #[derive(Drop)]
@@ -79,6 +27,19 @@ pub enum CheckedWithin {
     Checked(Checked),
     /// The section is good, and the table is right wherever it answers. It answers this much of the section.
     Covered(Coverage),
+}
+
+impl CheckedWithin {
+    /// The answer of a check in this scope if the table is right there, and answers this much of the section: `yes`, or how much, if not
+    /// all positions count.
+    pub fn if_right(scope: Scope, coverage: Coverage, yes: Checked) -> CheckedWithin
+        ensures { result ≡ told_right scope coverage yes }
+    {
+        match scope {
+            Scope::All => CheckedWithin::Checked(yes),
+            Scope::Answered => CheckedWithin::Covered(coverage),
+        }
+    }
 }
 
 /// The lines that report it, without the last line feed.

@@ -14,9 +14,8 @@ ghost use Rattle.lnt_table.specs.WrongStretches.{CanGoOn, HasFoundWrong, rank, w
 
 use crate::copies::Copies;
 use crate::kept::{EndedDifference, KeptStretches};
-use crate::within::{Coverage, Scope};
 use lnt_lines::Index;
-use lnt_spans::Position;
+use lnt_spans::{Coverage, Position, Scope};
 use std::alloc::{AllocError, Global};
 
 /// Gives the stretches of positions in a scope at which a table isn't right, if the answer of any live sequence that holds a position is:

@@ -20,14 +20,14 @@ use lnt_records::{
     PathRecord, PathVersion, Paths, TableFault, TakeFault, TakesRecords, first_record, header_of,
     record_of,
 };
-use lnt_spans::{Position, SpanSource};
+use lnt_spans::{Position, Scope, SpanSource};
 use std::alloc::{AllocError, Global};
 use std::marker::PhantomData;
 
-/// Compares the table by path in these bytes with the spans of a section, which come from a source.
+/// Compares the table by path in these bytes with the spans of a section, which come from a source, at the positions of this scope.
 ///
 /// The records are read one by one, as `csv` reads them, and none is kept. `Table`: the bytes are a table by path, and this is what
-/// its comparison with the spans found, with paths, in the fields of the table's version: paths are compared byte for byte. `Fault`:
+/// it is judged to be, with paths, in the fields of its version: paths are compared byte for byte. `Fault`:
 /// the bytes are not such a table. The first faulty record is reported, even if answers differed before it.
 ///
 /// No list of the spans is made, and a path is made again only after another file took its slot in a cache. The caller makes
@@ -37,9 +37,10 @@ pub fn compare_by_path<S: SpanSource + Drop, P: Paths>(
     table: &[u8],
     spans: S,
     paths: &P,
+    scope: Scope,
 ) -> Result<Outcome<DifferenceByPath>, AllocError>
     ensures { IfOk result (λ outcome. (list : List spec.Span) → S.to_come spans list → AreInOrder list
-        → IsPathOutcome table.now (λ version. spans_by_path version (P.bytes_of paths.now) list) outcome) }
+        → IsPathOutcome scope table.now (λ version. spans_by_path version (P.bytes_of paths.now) list) outcome) }
 {
     let Some(version) = header_of::<PathVersion>(alloc, table)? else {
         return Ok(TableRead::Fault(TableFault::Header));
@@ -52,7 +53,7 @@ pub fn compare_by_path<S: SpanSource + Drop, P: Paths>(
         version,
         held: PhantomData,
     };
-    compare_after(alloc, table, &telling, comparison, 1)
+    compare_after(alloc, table, &telling, comparison, 1, scope)
 }
 
 // The state of a comparison with a table by path.

@@ -13,7 +13,7 @@ use lnt_io::{Source, Stop};
 use lnt_records::{
     LineRoom, PathVersion, Paths, ROOM, TableVersion, addresses_before, place_before,
 };
-use lnt_spans::{Answer, Found, Merge, Span, SpanSource, Telling};
+use lnt_spans::{Answer, Coverage, Merge, Scope, Span, SpanSource, Telling};
 use std::alloc::{AllocError, Global};
 
 impl<'p, 'r, P: Paths> Joins for PathTelling<'p, 'r, P> {
@@ -31,7 +31,7 @@ impl<'p, 'r, P: Paths> Joins for PathTelling<'p, 'r, P> {
 impl<'p, 'r, P: Paths> LineTelling for PathTelling<'p, 'r, P> {
     ghost use Rattle.std.specs.Prelude.{List, Option, IfOk};
     ghost use Rattle.lnt_spans.specs.Spans.{IsOfInstructions};
-    ghost use Rattle.lnt_spans.specs.Merged.{AreFound, HasMerged, answer_told};
+    ghost use Rattle.lnt_spans.specs.Merged.{HasMerged, IsJudged, answer_told};
     ghost use Rattle.lnt_spans.specs.declared.position.Position.{Position as SpecPosition};
     ghost use Rattle.lnt_spans.specs.declared.span.Span.{Span as SpecSpan};
     ghost use Rattle.lnt_compare.specs.PathStretches.{stretch_of};
@@ -59,12 +59,14 @@ impl<'p, 'r, P: Paths> LineTelling for PathTelling<'p, 'r, P> {
     fn finish<S: SpanSource + Drop>(
         &self,
         merge: Merge<S, DifferenceByPath>,
-    ) -> Result<Found<DifferenceByPath>, AllocError>
-        ensures { IfOk result (λ found. (spans : List SpecSpan) (by_table : SpecPosition → Option PathAnswer)
+        scope: Scope,
+    ) -> Result<Result<Coverage, DifferenceByPath>, AllocError>
+        ensures { IfOk result (λ judged. (spans : List SpecSpan) (by_table : SpecPosition → Option PathAnswer)
             → HasMerged S.to_come (path_answer self.now.version (P.bytes_of self.now.paths.now)) stretch_of merge spans by_table
-            → AreFound stretch_of (answer_told (path_answer self.now.version (P.bytes_of self.now.paths.now)) spans) by_table found) }
+            → IsJudged scope stretch_of (answer_told (path_answer self.now.version (P.bytes_of self.now.paths.now)) spans) by_table
+            judged) }
     {
-        merge.finish(self)
+        merge.finish(self, scope)
     }
 
     fn header(&self) -> &'static [u8] {

@@ -15,12 +15,12 @@ use crate::stream::compare_coming;
 use crate::window::Window;
 use lnt_io::{Source, Stop};
 use lnt_records::{PathVersion, Paths};
-use lnt_spans::SpanSource;
+use lnt_spans::{Scope, SpanSource};
 use std::alloc::Global;
 use std::marker::PhantomData;
 
-/// Compares a table by path of this version with the spans of a section, as both come. The header, a line of its own, was passed;
-/// `window` has the bytes after it that were taken from the source so far.
+/// Compares a table by path of this version with the spans of a section, as both come, at the positions of this scope. The header, a
+/// line of its own, was passed; `window` has the bytes after it that were taken from the source so far.
 ///
 /// The outcome is that of `compare_by_path` for all bytes of the table. As long as its lines are those that `write_by_path` writes
 /// for the spans, they are compared as text and not parsed. The lines from there on are taken as `compare_lines` takes them.
@@ -33,10 +33,11 @@ pub fn compare_lines_by_path<S: SpanSource + Drop, P: Paths, T: Source>(
     version: PathVersion,
     spans: S,
     paths: &P,
+    scope: Scope,
 ) -> Result<Outcome<DifferenceByPath>, Stop>
     requires { T.failures table.old < 2 ^ 64 - 1 }
     ensures ok { IfOk result (λ outcome. (list : List spec.Span) → S.to_come spans list → AreInOrder list
-        → IfSome (T.remaining table.old) (λ more. IsPathOutcome (line_text (path_column_names version) ++ (window ++ more))
+        → IfSome (T.remaining table.old) (λ more. IsPathOutcome scope (line_text (path_column_names version) ++ (window ++ more))
         (λ version. spans_by_path version (P.bytes_of paths.now) list) outcome)) }
     ensures failures { CountsFailure ⟦<T as Source>⟧ table.old table.new result Stop.Read }
     ensures too_long { IsTooLongOn ⟦<T as Source>⟧ table.old table.new result Stop.TooLong }
@@ -48,5 +49,5 @@ pub fn compare_lines_by_path<S: SpanSource + Drop, P: Paths, T: Source>(
         held: PhantomData,
     };
     let memory = PathMemory::new(alloc)?;
-    compare_coming(alloc, table, window, &telling, memory, spans)
+    compare_coming(alloc, table, window, &telling, memory, spans, scope)
 }

@@ -8,14 +8,14 @@ use crate::samples::{Narrow, TABLE};
 use crate::tables::worked::{narrow, plain_spans, wide};
 use lnt_compare::{TableRead, compare_records};
 use lnt_records::{WriteStop, write_spans};
-use lnt_spans::{Span, SpanSlice, Version};
+use lnt_spans::{Scope, Span, SpanSlice, Version};
 use std::alloc::Global;
 
-// Whether the table answers as the spans do.
+// Whether the table answers as the spans do at every position.
 fn agrees(alloc: Global, table: &[u8]) -> bool {
     let spans = plain_spans(wide(3, 7), wide(4, 0));
-    match compare_records(alloc, table, SpanSlice::of(&spans)) {
-        Ok(TableRead::Table(found)) => found.first().is_none(),
+    match compare_records(alloc, table, SpanSlice::of(&spans), Scope::All) {
+        Ok(TableRead::Table(judged)) => judged.is_ok(),
         _ => false,
     }
 }

@@ -1,6 +1,6 @@
 use Rattle.std.proofs.Common.{◌≡◌}
 use Rattle.lnt_io.proofs.PrefixLaws.{so_stopped}
-use Rattle.lnt_table.specs.AnyVersion.{scope_in}
+use Rattle.lnt_spans.specs.Partial.{scope_in}
 use Rattle.lnt_cli.proofs.StopLemmas.{stopped_by}
 use Rattle.lnt_cli.proofs.question.answer_good_file.Goals as goal
 

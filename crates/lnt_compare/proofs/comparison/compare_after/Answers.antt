@@ -7,6 +7,6 @@ returns-in-Ok g c first list passed bytes narrow begins cut j number =
       comparison = c.take_records.new.state;
       more = now.0;
       all = now.1;
-      judged = now.2;
-      found_is = λ by_table. c.in-Ok.ensures list by_table;
+      records = now.2;
+      judged_is = λ by_table. c.in-Ok.ensures list by_table;
     }

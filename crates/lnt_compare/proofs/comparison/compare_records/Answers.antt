@@ -23,7 +23,7 @@ returns g c =
     IfOk-weaker c.compare_after.result _ _
     (λ outcome h list coming order.
     outcome_told _ g.S.SpanSource.to_come tables_by_number (in_version version) version list (names ∷ []) c.args.table.now
-    (in_versions (span_answer list)) outcome (λ p. refl)
+    (in_versions (span_answer list)) c.args.scope outcome (λ p. refl)
     (h names list (names ∷ []) c.args.table.now (numbered.narrow version) (rw c.in-Some.is at c.in_ok-version.ensures)
     (λ more after rest r. r)
     (judges_none g.S.SpanSource.to_come tables_by_number (in_version version) (span_in_version version) (number_told version) version

@@ -25,4 +25,4 @@ returns-clause-ok g c =
     IfOk-weaker c.compare_coming.result _ _
     (λ outcome compared list come order. rest_compared _ _ tables_by_number plain_by_number plain_numbers numbered
     (in_version version) (span_in_version version) (number_told version) version _ list _ _ c.args.window (in_versions (span_answer list))
-    outcome compared come order (λ p. refl)) c.compare_coming.ensures.ok
+    c.args.scope outcome compared come order (λ p. refl)) c.compare_coming.ensures.ok

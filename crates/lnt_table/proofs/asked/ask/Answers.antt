@@ -1,6 +1,6 @@
 use Rattle.std.proofs.Common.{◌∙◌, [], ap, subst, sym}
 use Rattle.lnt_spans.specs.Partial.{AreCounts}
-use Rattle.lnt_table.specs.declared.within.Coverage.{Coverage}
+use Rattle.lnt_spans.specs.declared.scope.Coverage.{Coverage}
 use Rattle.lnt_table.proofs.AskedLemmas.{first_one}
 use Rattle.lnt_table.proofs.asked.ask.Goals as goal
 

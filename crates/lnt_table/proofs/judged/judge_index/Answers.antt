@@ -8,15 +8,15 @@ pub returns-in-Some-clause-ok : goal.returns-in-Some-clause-ok
 returns-in-Some-clause-ok g c selection is =
     let all = c.spans.ensures.gives selection is in
     begun_by_number _ _ _ _ c.in_ok-window.window c.pass_header.new.window c.in-Some.version c.args.index.now selection
-    c.args.scope all.spans c.in_ok-outcome.outcome c.of-in-Some.result c.of-in-Some.ensures c.in_ok-window.ensures.taken c.in-Some.ensures
+    c.args.scope all.spans c.in_ok-outcome.outcome c.in_ok-window.ensures.taken c.in-Some.ensures
     all.answers
     (c.in_ok-outcome.ensures.ok all.spans all.to_come all.in_order)
 
 pub returns-in-Some-pass_header-clause-ok : goal.returns-in-Some-pass_header-clause-ok
 returns-in-Some-pass_header-clause-ok g c selection is =
-    let all = c.spans-in-Some-pass_header.ensures.gives selection is in
+    let all = c.spans-spans.ensures.gives selection is in
     begun_by_path _ _ _ _ c.in_ok-window.window c.pass_header-2.new.window c.in-Some-pass_header.version c.args.index.now
-    selection c.args.scope all.spans c.in_ok-outcome-2.outcome c.of-in-Some-pass_header.result c.of-in-Some-pass_header.ensures is
+    selection c.args.scope all.spans c.in_ok-outcome-2.outcome is
     c.in_ok-window.ensures.taken
     (sym c.in_default.ensures ∙ c.in-Some-pass_header.ensures) all.answers
     (c.in_ok-outcome-2.ensures.ok all.spans all.to_come all.in_order)

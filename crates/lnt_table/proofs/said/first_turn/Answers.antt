@@ -1,4 +1,3 @@
-use Rattle.std.proofs.Common.{◌∙◌}
 use Rattle.lnt_spans.proofs.PositionLaws.{below_is_at_most}
 use Rattle.lnt_table.proofs.SaidLemmas.{still_later}
 use Rattle.lnt_table.proofs.said.first_turn.Goals as goal

@@ -1,4 +1,4 @@
-use Rattle.std.proofs.Common.{◌<◌, ◌⊎◌, inl, inr, arith, length}
+use Rattle.std.proofs.Common.{◌<◌, inl, inr, arith, length}
 use Rattle.std.proofs.lemmas.Bool.{cases_lt}
 use Rattle.std.proofs.lemmas.List.Sums.{sum_by-set}
 use Rattle.lnt_spans.proofs.PositionLaws.{at_most_below, at_most_itself, at_most_trans, below_is_at_most, not_both, order_cases}

@@ -1,4 +1,4 @@
-use Rattle.std.proofs.Common.{◌∙◌, sym}
+use Rattle.std.proofs.Common.{◌∙◌}
 use Rattle.lnt_table.specs.Asked.{AreReady}
 use Rattle.lnt_table.proofs.AskedLemmas.{no_piece, none_if, piece_at, unanswered_judged, unanswered_ready, upto_end}
 use Rattle.lnt_spans.proofs.PositionLaws.{at_most_below}

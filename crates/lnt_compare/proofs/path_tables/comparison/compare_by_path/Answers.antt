@@ -29,7 +29,7 @@ returns g c =
     IfOk-weaker c.compare_after.result _ _
     (λ outcome h list come order.
     outcome_told _ g.S.SpanSource.to_come tables_by_path tell version list (names ∷ []) c.args.table.now
-    (λ version. spans_by_path version path list) outcome (λ p. refl)
+    (λ version. spans_by_path version path list) c.args.scope outcome (λ p. refl)
     (h names list (names ∷ []) c.args.table.now (pathed.narrow version) (rw c.in-Some.is at c.in_ok-version.ensures)
     (λ more after rest r. r)
     (judges_none g.S.SpanSource.to_come tables_by_path tell (tell_span tell) (path_told tell) version c.args.spans

@@ -30,6 +30,6 @@ returns-clause-ok g c =
     (λ outcome compared list come order.
     let answers = λ (version : PathVersion). spans_by_path version path list in
     subst (λ (line : List ℕ). IfSome (g.T.Source.remaining c.args.table.now) (λ more.
-    IsPathOutcome (line ++ (c.args.window ++ more)) answers outcome)) (sym (header_text version))
+    IsPathOutcome c.args.scope (line ++ (c.args.window ++ more)) answers outcome)) (sym (header_text version))
     (rest_compared _ _ tables_by_path plain_by_path plain_paths pathed tell (tell_span tell) (path_told tell) version _ list _ _
-    c.args.window answers outcome compared come order (λ p. refl))) c.compare_coming.ensures.ok
+    c.args.window answers c.args.scope outcome compared come order (λ p. refl))) c.compare_coming.ensures.ok

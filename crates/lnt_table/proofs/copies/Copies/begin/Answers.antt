@@ -1,4 +1,4 @@
-use Rattle.std.proofs.Common.{◌<◌, ◌≡◌, ◌∙◌, ap, arith, length, sym, subst, [], ◌∷◌}
+use Rattle.std.proofs.Common.{◌<◌, ◌∙◌, ap, arith, length, sym, subst, [], ◌∷◌}
 use Rattle.std.proofs.lemmas.List.{get_or_default, length-append}
 use Rattle.lnt_sequences.specs.declared.extent.Extent.{Extent}
 use Rattle.lnt_sequences.specs.Sequences.{answer_in}

@@ -1,4 +1,4 @@
-use Rattle.std.proofs.Common.{◌∙◌, Some, ap, arith, length, refl, subst, sym}
+use Rattle.std.proofs.Common.{◌∙◌, Some, ap, arith, length, subst, sym}
 use Rattle.lnt_spans.specs.declared.position.Position.{Position}
 use Rattle.lnt_spans.specs.Positions.{IsAtMost}
 use Rattle.lnt_spans.proofs.DerivedOrder.{at_most_from_ge, at_most_from_not_lt, below_from_lt, below_from_not_ge}

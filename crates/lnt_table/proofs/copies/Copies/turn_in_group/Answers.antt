@@ -1,6 +1,6 @@
-use Rattle.std.proofs.Common.{◌≡◌, ◌∙◌, ◌≤◌, List, ap, arith, length, subst, sym}
+use Rattle.std.proofs.Common.{◌∙◌, List, arith, subst, sym}
 use Rattle.lnt_sequences.specs.Copies.{AreExtentsOf}
-use Rattle.lnt_sequences.specs.Sequences.{answer_in, live_sequences}
+use Rattle.lnt_sequences.specs.Sequences.{live_sequences}
 use Rattle.lnt_lines.specs.Cursors.{AreToCome, Cursor}
 use Rattle.lnt_table.specs.declared.said.SequenceSpans.{SequenceSpans}
 use Rattle.lnt_table.specs.Asked.{AreSequencesFrom}

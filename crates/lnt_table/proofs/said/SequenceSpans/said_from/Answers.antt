@@ -1,5 +1,5 @@
 use Rattle.lnt_spans.proofs.DerivedOrder.{at_most_from_ge, below_from_not_ge}
-use Rattle.lnt_spans.proofs.PositionLaws.{at_most_itself, at_most_trans, below_at_most, below_is_at_most}
+use Rattle.lnt_spans.proofs.PositionLaws.{at_most_trans, below_at_most, below_is_at_most}
 use Rattle.lnt_table.proofs.SaidLemmas.{ends_later, says_first, says_on, says_without}
 use Rattle.lnt_table.proofs.SaidLemmas.{unsaid_after, unsaid_below, unsaid_within, whole_later}
 use Rattle.lnt_table.proofs.said.SequenceSpans.said_from.Goals as goal
