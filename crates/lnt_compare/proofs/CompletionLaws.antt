@@ -9,7 +9,7 @@ use Rattle.lnt_spans.proofs.RunLaws.{HasRuns, first_runs}
 use Rattle.lnt_spans.proofs.SameLaws.{same_options}
 use Rattle.lnt_spans.proofs.StretchLaws.{AllAfter, given_on}
 use Rattle.lnt_compare.specs.declared.path_tables.path_differences.DifferencesByPath.{DifferencesByPath}
-use Rattle.lnt_records.specs.declared.path_records.record.SaidPath.{SaidPath}
+use Rattle.lnt_records.specs.declared.path_records.record.HeldPath.{HeldPath}
 use Rattle.lnt_compare.specs.Held.{held_span, IsTableAt, PathsEndAfter}
 use Rattle.lnt_records.specs.PathSpans.{path_answer, PathAnswer, path_span_answer, PathSpan, StandInOrder, path_spans}
 use Rattle.lnt_spans.specs.AnyStretches.{Stretch}
@@ -65,7 +65,7 @@ table_runs (span ∷ more) at answers o past same =
 -- ---- answers by path
 
 -- an answer that is held somewhere
-said : PathAnswer → SaidPath
+said : PathAnswer → HeldPath
 said answer = record { path = record { ref_ptr = (0, 0); now = answer.path }; line = answer.line; column = answer.column }
 
 as_said : (answer : Option PathAnswer) → answer ≡ option_map said_answer (option_map said answer)

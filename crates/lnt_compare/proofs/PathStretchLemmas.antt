@@ -16,7 +16,7 @@ use Rattle.lnt_spans.proofs.StretchLemmas.{begins_at, begun_given}
 use Rattle.lnt_compare.specs.declared.path_tables.answer.DifferenceByPath.{DifferenceByPath}
 use Rattle.lnt_compare.specs.declared.path_tables.path_differences.HeldSpans.{HeldSpans}
 use Rattle.lnt_compare.specs.declared.path_tables.telling.PathMemory.{PathMemory}
-use Rattle.lnt_records.specs.declared.path_records.record.SaidPath.{SaidPath}
+use Rattle.lnt_records.specs.declared.path_records.record.HeldPath.{HeldPath}
 use Rattle.lnt_records.specs.declared.path_records.version.PathVersion.{PathVersion}
 use Rattle.lnt_compare.specs.Passing.{IsRemembered}
 use Rattle.lnt_compare.specs.Held.{held_span, IsTableAt}
@@ -35,7 +35,7 @@ none_before : (f : Position → Option PathAnswer) → addresses_answered (until
 none_before f = no_addresses (until (whole 0) f) (λ p. ap is_some (until_from (whole 0) p f (origin_first p)))
 
 pub path_begun : {S : Type 0} (to_come : S → List Span → Type 0) (section : S) (held : HeldSpans) (version : PathVersion) (at : Position)
-    (stretches : Stretches S HeldSpans SaidPath) (path : ℕ → ℕ → List ℕ) (list : List Span) (f : Position → Option PathAnswer)
+    (stretches : Stretches S HeldSpans HeldPath) (path : ℕ → ℕ → List ℕ) (list : List Span) (f : Position → Option PathAnswer)
     → HasBegun to_come section held at 0 stretches → at ≡ whole 0 → to_come section list → AreInOrder list
     → ((p : Position) → spans_by_path version path list p ≡ f p) → StandInOrder (map held_span held.spans.now)
     → HasFoundStretchesByPath to_come path (record { version = version; stretches = stretches; memory = None }) f
@@ -54,7 +54,7 @@ path_begun to_come section held version at stretches path list f b e coming orde
 }
 
 pub told_next : {S : Type 0} (to_come : S → List Span → Type 0) (path : ℕ → ℕ → List ℕ) (version : PathVersion)
-    (stretches : Stretches S HeldSpans SaidPath) (kept : Option PathMemory) (f g : Position → Option PathAnswer)
+    (stretches : Stretches S HeldSpans HeldPath) (kept : Option PathMemory) (f g : Position → Option PathAnswer)
     (told : List DifferenceByPath) (found : Option DifferenceByPath) (P Q : Type 0) → IfSome kept (IsRemembered path)
     → MatchOption found (AreAllStretches f g (stretches_of told) × P × Q)
     (λ difference. HasGiven to_come IsHeldAt said_answer (path_answer version path) said_answer stretches f g

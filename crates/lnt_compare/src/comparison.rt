@@ -100,7 +100,7 @@ impl<S: SpanSource + Drop, D: Drop, M: Drop> Comparison<S, D, M> {
         telling: &T,
         low: Position,
         high: Position,
-        held: T::Said,
+        held: T::Held,
     ) -> Result<bool, T::Refusal>
         requires sound { T.is_sound telling.now self.old.memory }
         ensures sound { OnOk result (T.is_sound telling.now self.new.memory) }

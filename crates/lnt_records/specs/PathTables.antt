@@ -7,7 +7,7 @@ pub use Rattle.lnt_records.specs.declared.path_records.version.PathVersion.{Path
 use Rattle.lnt_records.specs.declared.path_records.version.PathVersion.TheVariants.{Three, Four}
 use Rattle.lnt_records.specs.PathSpans.{PathAnswer, PathSpan, StandInOrder, whole}
 use Rattle.lnt_records.specs.declared.path_records.record.PathRecord.{PathRecord}
-use Rattle.lnt_records.specs.declared.path_records.record.SaidPath.{SaidPath}
+use Rattle.lnt_records.specs.declared.path_records.record.HeldPath.{HeldPath}
 
 -- the header, record 0
 abbrev pub path_column_names : PathVersion → Fields
@@ -60,7 +60,7 @@ IsPathTableOf version bytes spans = IsTableOfIn by_path version bytes spans
 -- ---- one record of a table by path, as it is read
 
 -- a record's answer that is borrowed
-abbrev pub said_answer : SaidPath → PathAnswer
+abbrev pub said_answer : HeldPath → PathAnswer
 said_answer said = record { path = said.path.now; line = said.line; column = said.column }
 
 -- the answer of a record

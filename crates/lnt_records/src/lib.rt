@@ -26,7 +26,7 @@ pub use fault::{TableFault, WriteStop};
 pub use header::{TableVersion, header_of};
 pub use lines::first_span;
 pub use path_records::{
-    FileText, FileTexts, PathFields, PathRecord, PathVersion, Paths, SaidPath, ToldFile, ToldFiles,
+    FileText, FileTexts, HeldPath, PathFields, PathRecord, PathVersion, Paths, ToldFile, ToldFiles,
     addresses_before, first_record, place_before, put_line, record_of,
 };
 pub use record::{RecordFault, span_of};

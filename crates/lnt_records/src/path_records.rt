@@ -18,6 +18,6 @@ pub use kept::{FileText, FileTexts};
 pub use line::{addresses_before, place_before, put_line};
 pub use paths::Paths;
 pub use plain::first_record;
-pub use record::{PathRecord, SaidPath, record_of};
+pub use record::{HeldPath, PathRecord, record_of};
 pub use told::{ToldFile, ToldFiles};
 pub use version::PathVersion;

@@ -89,8 +89,8 @@ impl<S: SpanSource, N, A> Stretches<S, N, A> {
 /// Gives the next stretch: its first position and the two answers. `None` once all were given; those are then exactly the
 /// stretches, in ascending order, and all addresses were compared. `stretch_end` passes the rest of the stretch. After an error
 /// nothing is known of the state.
-pub fn next_stretch<S: SpanSource, N: Runs<T::Said>, T: Telling>(
-    stretches: &mut Stretches<S, N, T::Said>,
+pub fn next_stretch<S: SpanSource, N: Runs<T::Held>, T: Telling>(
+    stretches: &mut Stretches<S, N, T::Held>,
     telling: &T,
     memory: &mut T::Memory,
 ) -> Result<Option<T::Difference>, T::Refusal>
@@ -123,8 +123,8 @@ pub fn next_stretch<S: SpanSource, N: Runs<T::Said>, T: Telling>(
 
 /// Passes the rest of the stretch that was given last, and gives its end: the first position after it. After an error nothing is
 /// known of the state.
-pub fn stretch_end<S: SpanSource, N: Runs<T::Said>, T: Telling>(
-    stretches: &mut Stretches<S, N, T::Said>,
+pub fn stretch_end<S: SpanSource, N: Runs<T::Held>, T: Telling>(
+    stretches: &mut Stretches<S, N, T::Held>,
     telling: &T,
     memory: &mut T::Memory,
 ) -> Result<Position, T::Refusal>
@@ -149,8 +149,8 @@ pub fn stretch_end<S: SpanSource, N: Runs<T::Said>, T: Telling>(
 
 // Steps to the next position at which an answer may end, if both are the same as before. Below `until` the table's answer is known to
 // be as before, and isn't compared.
-fn goes_on<S: SpanSource, N: Runs<T::Said>, T: Telling>(
-    stretches: &mut Stretches<S, N, T::Said>,
+fn goes_on<S: SpanSource, N: Runs<T::Held>, T: Telling>(
+    stretches: &mut Stretches<S, N, T::Held>,
     telling: &T,
     memory: &mut T::Memory,
     until: &mut Position,
@@ -204,11 +204,11 @@ fn goes_on<S: SpanSource, N: Runs<T::Said>, T: Telling>(
 
 // Steps through a run of the table, up to the first position in it at which a stretch begins, or up to its end. What was compared
 // with the run's answer is remembered until then. `None` if both sides are exhausted.
-fn pass_run<S: SpanSource, N: Runs<T::Said>, T: Telling>(
-    stretches: &mut Stretches<S, N, T::Said>,
+fn pass_run<S: SpanSource, N: Runs<T::Held>, T: Telling>(
+    stretches: &mut Stretches<S, N, T::Held>,
     telling: &T,
     memory: &mut T::Memory,
-) -> Result<Option<Step<T::Said>>, T::Refusal>
+) -> Result<Option<Step<T::Held>>, T::Refusal>
     requires sound { T.is_sound telling.now memory.old }
     requires given { (by_section : spec_position.Position → Option T.Told) × (by_table : spec_position.Position → Option T.Told)
         × (given : List (Stretch T.Told))
@@ -247,14 +247,14 @@ fn is_reached(end: Option<Position>, at: Position) -> bool
 // Steps to the next position at which the section's answer may end, or this run of the table does. `None` if neither ever ends: both
 // sides are exhausted. Whether the table's answer is known to be the same as before is told: then it isn't compared.
 #[inline(always)]
-fn take_step<S: SpanSource, N: Runs<T::Said>, T: Telling>(
-    stretches: &mut Stretches<S, N, T::Said>,
+fn take_step<S: SpanSource, N: Runs<T::Held>, T: Telling>(
+    stretches: &mut Stretches<S, N, T::Held>,
     telling: &T,
     memory: &mut T::Memory,
     recalled: &mut T::Recalled,
-    run: Run<T::Said>,
+    run: Run<T::Held>,
     is_same: bool,
-) -> Result<Option<Step<T::Said>>, T::Refusal>
+) -> Result<Option<Step<T::Held>>, T::Refusal>
     requires sound { T.is_sound telling.now memory.old }
     requires recalled { IfSome run.answer (T.recalls telling.now recalled.old) }
     requires past { IsBefore stretches.old.at run.end }
@@ -351,8 +351,8 @@ fn is_known<T: Telling>(
     telling: &T,
     memory: &mut T::Memory,
     recalled: &mut T::Recalled,
-    both: Both<T::Said>,
-    before: Both<T::Said>,
+    both: Both<T::Held>,
+    before: Both<T::Held>,
     is_same: bool,
 ) -> Result<bool, T::Refusal>
     requires sound { T.is_sound telling.now memory.old }
@@ -374,8 +374,8 @@ fn is_known<T: Telling>(
 fn are_as_before<T: Telling>(
     telling: &T,
     memory: &mut T::Memory,
-    both: Both<T::Said>,
-    before: Both<T::Said>,
+    both: Both<T::Held>,
+    before: Both<T::Held>,
     is_same: bool,
 ) -> Result<bool, T::Refusal>
     requires sound { T.is_sound telling.now memory.old }
@@ -399,7 +399,7 @@ fn are_alike<T: Telling>(
     telling: &T,
     memory: &mut T::Memory,
     recalled: &mut T::Recalled,
-    both: Both<T::Said>,
+    both: Both<T::Held>,
 ) -> Result<bool, T::Refusal>
     requires sound { T.is_sound telling.now memory.old }
     requires recalled { IfSome both.table (T.recalls telling.now recalled.old) }
@@ -419,8 +419,8 @@ fn are_alike<T: Telling>(
 #[inline(always)]
 fn is_as_held<T: Telling>(
     telling: &T,
-    one: Option<T::Said>,
-    other: Option<T::Said>,
+    one: Option<T::Held>,
+    other: Option<T::Held>,
     is_same: bool,
 ) -> bool
     requires { IsTrue is_same → option_map T.said one ≡ option_map T.said other }

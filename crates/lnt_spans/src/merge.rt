@@ -73,7 +73,7 @@ impl<S: SpanSource + Drop, D: Drop> Merge<S, D> {
         memory: &mut T::Memory,
         low: Position,
         high: Position,
-        held: T::Said,
+        held: T::Held,
     ) -> Result<(), T::Refusal>
         requires sound { T.is_sound telling.now memory.old }
         requires past { IsAtMost (end_of_records self.old) low }
@@ -226,7 +226,7 @@ fn first_mistake<S: SpanSource, T: Telling>(
     spans: &mut Ahead<S>,
     low: Position,
     high: Position,
-    held: T::Said,
+    held: T::Held,
 ) -> Result<Option<T::Difference>, T::Refusal>
     requires sound { T.is_sound telling.now memory.old }
     requires holds { IsBelow low high }

@@ -15,7 +15,7 @@ impl Telling for Version {
     ghost use Rattle.lnt_spans.specs.Answers.{in_version};
     ghost use Rattle.lnt_spans.specs.Differences.{stretch_of};
 
-    type Said = Answer;
+    type Held = Answer;
 
     type Memory = ();
 

@@ -7,9 +7,11 @@ use crate::position::Position;
 /// How much of an answer a table contains, and how answers are compared as far as it contains them: a table by number contains
 /// the numbers of a unit and a file, a table by path the path of the file, which takes memory.
 ///
-/// Ghost members give the meaning. `Told` is what a table contains of an answer, `tell` gives it for the answer of a section,
-/// and `said` for that of a record. `is_sound` says that what is remembered of other comparisons is right, and `recalls` that
-/// what is remembered of one record is. `value_of` is a difference without regard to where its answers are held.
+/// Each side of a comparison has its word: a section's answer is *told*, as far as a table contains it; a record's is *said*; and the
+/// latter, as it lies in memory, is *held*. Ghost members give the meaning. `Told` is what a table contains of an answer, `tell` gives
+/// it for the answer of a section, and `said` for the held answer of a record. `is_sound` says that what is remembered of other
+/// comparisons is right, and `recalls` that what is remembered of one record is. `value_of` is a difference without regard to where
+/// its answers are held.
 pub trait Telling {
     ghost use Rattle.std.specs.Prelude.{◌≡◌, ◌≢◌, IfOk, OnOk, Option};
     ghost use Rattle.std.specs.Bool.{MatchBool};
@@ -17,8 +19,8 @@ pub trait Telling {
     ghost use Rattle.lnt_spans.specs.declared.answer.Answer.{Answer as SpecAnswer};
     ghost use Rattle.lnt_spans.specs.AnyStretches.{Stretch, stretch_at};
 
-    /// The answer of a record, as it is held.
-    type Said: Copy;
+    /// The answer of a record, as it lies in memory.
+    type Held: Copy;
 
     /// What is remembered of comparisons.
     type Memory: Drop;
@@ -36,11 +38,11 @@ pub trait Telling {
 
     ghost tell: { Self → SpecAnswer → Told };
 
-    ghost said: { Self.Said → Told };
+    ghost said: { Self.Held → Told };
 
     ghost is_sound: { Self → Self.Memory → Type 0 };
 
-    ghost recalls: { Self → Self.Recalled → Self.Said → Type 0 };
+    ghost recalls: { Self → Self.Recalled → Self.Held → Type 0 };
 
     ghost value_of: { Self.Difference → Stretch Told };
 
@@ -58,7 +60,7 @@ pub trait Telling {
 
     /// Nothing is remembered of any record.
     fn nothing(&self) -> Self::Recalled
-        ensures { (answer : Self.Said) → recalls self.now result answer };
+        ensures { (answer : Self.Held) → recalls self.now result answer };
 
     /// Whether an answer of a section is that of a record.
     fn is_said(
@@ -66,7 +68,7 @@ pub trait Telling {
         memory: &mut Self::Memory,
         recalled: &mut Self::Recalled,
         answer: &Answer,
-        held: Self::Said,
+        held: Self::Held,
     ) -> Result<bool, Self::Refusal>
         requires sound { is_sound self.now memory.old }
         requires recalled { recalls self.now recalled.old held }
@@ -76,14 +78,14 @@ pub trait Telling {
             (tell self.now answer.now ≢ said held)) };
 
     /// Whether two answers of records are the same.
-    fn same_said(&self, one: Self::Said, other: Self::Said) -> bool
+    fn same_said(&self, one: Self::Held, other: Self::Held) -> bool
         ensures { MatchBool result (said one ≡ said other) (said one ≢ said other) };
 
     /// The difference at this position, with the answers of both sides there.
     fn difference(
         &self,
         position: Position,
-        by_table: Option<Self::Said>,
+        by_table: Option<Self::Held>,
         by_section: Option<Answer>,
     ) -> Result<Self::Difference, Self::Refusal>
         ensures { IfOk result (λ difference. value_of difference

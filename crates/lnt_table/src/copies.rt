@@ -75,7 +75,7 @@ impl<'i, 'a> Copies<'i, 'a> {
         ensures range { IfOk result (λ found. IfSome found (λ at. IsAtMost low at × IsBelow at high)) }
         ensures found { IfOk result (λ found. OfLive self.old.index.now (λ selection.
             FindsTurn is_said (IsAnyAnswer (A.tell answer.now) selection) (AreReady (A.tell answer.now) selection self.old)
-            (AreReady (A.tell answer.now) selection self.new) (Some (A.told answer.now)) low high found)) }
+            (AreReady (A.tell answer.now) selection self.new) (Some (A.said answer.now)) low high found)) }
     {
         self.go_to(alloc, low)?;
         let mut at = low;
@@ -112,9 +112,9 @@ impl<'i, 'a> Copies<'i, 'a> {
         ensures past { IfOk result (λ to. IsAtMost at to) }
         ensures upto { IfOk result (λ to. IsAtMost to end) }
         ensures turn { IfOk result (λ to. OfLive self.old.index.now (λ selection. (whole : spec_position.Position) → IsAtMost end whole
-            → AreReady (A.tell answer.now) selection self.old (Some (A.told answer.now)) at whole
-            → IsTurn is_said (IsAnyAnswer (A.tell answer.now) selection) (Some (A.told answer.now)) at end to
-            × AreReady (A.tell answer.now) selection self.new (Some (A.told answer.now)) to whole)) }
+            → AreReady (A.tell answer.now) selection self.old (Some (A.said answer.now)) at whole
+            → IsTurn is_said (IsAnyAnswer (A.tell answer.now) selection) (Some (A.said answer.now)) at end to
+            × AreReady (A.tell answer.now) selection self.new (Some (A.said answer.now)) to whole)) }
     {
         lnt_sequences::laws::extents_of_sequences();
         let to = first_turn(&mut self.sequences, answer, is_said, at, end)?;

@@ -115,7 +115,7 @@ impl TableAnswer for NumberAnswer {
 
     ghost tell = { λ number. in_version number.version };
 
-    ghost told = { λ number. number.answer };
+    ghost said = { λ number. number.answer };
 
     fn is_that(&self, answer: &Answer) -> Result<bool, AllocError> {
         Ok(answer.in_version(self.version) == self.answer)
@@ -224,7 +224,7 @@ impl<'p, 'a> TableAnswer for AnswerOfPath<'p, 'a> {
 
     ghost tell = { λ held. path_answer held.version (indexed_path held.index.now) };
 
-    ghost told = { λ held. told_path_answer held.answer.now };
+    ghost said = { λ held. told_path_answer held.answer.now };
 
     fn is_that(&self, answer: &Answer) -> Result<bool, AllocError> {
         if answer.line != self.answer.line

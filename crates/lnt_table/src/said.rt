@@ -13,7 +13,7 @@ use std::alloc::AllocError;
 
 // An answer of a table, with which answers of sequences are compared.
 //
-// Ghost members give the meaning. `tell` is what the table contains of an answer of a sequence, and `told` what it says.
+// Ghost members give the meaning. `tell` is what the table contains of an answer of a sequence, and `said` what it says.
 pub(crate) trait TableAnswer {
     ghost use Rattle.std.specs.Prelude.{◌≡◌, ◌≢◌, IfOk};
     ghost use Rattle.std.specs.Bool.{MatchBool};
@@ -23,12 +23,12 @@ pub(crate) trait TableAnswer {
 
     ghost tell: { Self → SpecAnswer → Told };
 
-    ghost told: { Self → Told };
+    ghost said: { Self → Told };
 
     // Whether an answer of a sequence is this one. Fails only if memory runs out.
     fn is_that(&self, answer: &Answer) -> Result<bool, AllocError>
-        ensures { IfOk result (λ same. MatchBool same (tell self.now answer.now ≡ told self.now)
-            (tell self.now answer.now ≢ told self.now)) };
+        ensures { IfOk result (λ same. MatchBool same (tell self.now answer.now ≡ said self.now)
+            (tell self.now answer.now ≢ said self.now)) };
 }
 
 // The spans of a sequence that are left, from a position on.
@@ -61,15 +61,15 @@ impl<S: SpanSource> SequenceSpans<S> {
         ensures past { IfOk result (λ to. IsAtMost at to) }
         ensures upto { IfOk result (λ to. IsAtMost to end) }
         ensures kept { IfOk result (λ to. (whole : spec_position.Position) (answers : spec_position.Position → Option spec_answer.Answer)
-            → IsAtMost end whole → SaysFrom S.to_come (A.tell answer.now) (A.told answer.now) self.old at whole answers
-            → SaysFrom S.to_come (A.tell answer.now) (A.told answer.now) self.new to whole answers) }
+            → IsAtMost end whole → SaysFrom S.to_come (A.tell answer.now) (A.said answer.now) self.old at whole answers
+            → SaysFrom S.to_come (A.tell answer.now) (A.said answer.now) self.new to whole answers) }
         ensures said { IfOk result (λ to. (whole : spec_position.Position) (answers : spec_position.Position → Option spec_answer.Answer)
-            → SaysFrom S.to_come (A.tell answer.now) (A.told answer.now) self.old at whole answers → (p : spec_position.Position)
-            → IsAtMost at p → IsBelow p to → Says (A.tell answer.now) (A.told answer.now) answers p) }
+            → SaysFrom S.to_come (A.tell answer.now) (A.said answer.now) self.old at whole answers → (p : spec_position.Position)
+            → IsAtMost at p → IsBelow p to → Says (A.tell answer.now) (A.said answer.now) answers p) }
         ensures unsaid { IfOk result (λ to. IsAtMost to at → IsBelow at end → (whole : spec_position.Position)
             (answers : spec_position.Position → Option spec_answer.Answer)
-            → SaysFrom S.to_come (A.tell answer.now) (A.told answer.now) self.old at whole answers
-            → Says (A.tell answer.now) (A.told answer.now) answers at → ⊥) }
+            → SaysFrom S.to_come (A.tell answer.now) (A.said answer.now) self.old at whole answers
+            → Says (A.tell answer.now) (A.said answer.now) answers at → ⊥) }
         ensures fewer { IfOk result (λ to. (left_of S.left self.new ≤ left_of S.left self.old)
             × (IsBelow at to → IsBelow to end → left_of S.left self.new < left_of S.left self.old)) }
     {
@@ -102,15 +102,15 @@ impl<S: SpanSource> SequenceSpans<S> {
         ensures past { IfOk result (λ to. IsAtMost at to) }
         ensures upto { IfOk result (λ to. IsAtMost to end) }
         ensures kept { IfOk result (λ _. (whole : spec_position.Position) (answers : spec_position.Position → Option spec_answer.Answer)
-            → IsAtMost end whole → SaysFrom S.to_come (A.tell answer.now) (A.told answer.now) self.old at whole answers
-            → SaysFrom S.to_come (A.tell answer.now) (A.told answer.now) self.new at whole answers) }
+            → IsAtMost end whole → SaysFrom S.to_come (A.tell answer.now) (A.said answer.now) self.old at whole answers
+            → SaysFrom S.to_come (A.tell answer.now) (A.said answer.now) self.new at whole answers) }
         ensures unsaid { IfOk result (λ to. (whole : spec_position.Position) (answers : spec_position.Position → Option spec_answer.Answer)
-            → SaysFrom S.to_come (A.tell answer.now) (A.told answer.now) self.old at whole answers → (p : spec_position.Position)
-            → IsAtMost at p → IsBelow p to → Says (A.tell answer.now) (A.told answer.now) answers p → ⊥) }
+            → SaysFrom S.to_come (A.tell answer.now) (A.said answer.now) self.old at whole answers → (p : spec_position.Position)
+            → IsAtMost at p → IsBelow p to → Says (A.tell answer.now) (A.said answer.now) answers p → ⊥) }
         ensures said { IfOk result (λ to. IsBelow to end → (whole : spec_position.Position)
             (answers : spec_position.Position → Option spec_answer.Answer)
-            → SaysFrom S.to_come (A.tell answer.now) (A.told answer.now) self.old at whole answers
-            → Says (A.tell answer.now) (A.told answer.now) answers to) }
+            → SaysFrom S.to_come (A.tell answer.now) (A.said answer.now) self.old at whole answers
+            → Says (A.tell answer.now) (A.said answer.now) answers to) }
     {
         self.pass_to(at);
         while let Some(span) = self.next {
@@ -167,9 +167,9 @@ pub(crate) fn first_turn<S: SpanSource, A: TableAnswer>(
     requires { IsBelow low high }
     ensures past { IfOk result (λ to. IsAtMost low to) }
     ensures upto { IfOk result (λ to. IsAtMost to high) }
-    ensures kept { IfOk result (λ to. StillSay S.to_come (A.tell answer.now) (A.told answer.now) sequences.old sequences.new low to high) }
-    ensures turns { IfOk result (TurnsAt is_said (OneSays S.to_come (A.tell answer.now) (A.told answer.now) sequences.old low)
-        (NoneSays S.to_come (A.tell answer.now) (A.told answer.now) sequences.old low) low high) }
+    ensures kept { IfOk result (λ to. StillSay S.to_come (A.tell answer.now) (A.said answer.now) sequences.old sequences.new low to high) }
+    ensures turns { IfOk result (TurnsAt is_said (OneSays S.to_come (A.tell answer.now) (A.said answer.now) sequences.old low)
+        (NoneSays S.to_come (A.tell answer.now) (A.said answer.now) sequences.old low) low high) }
 {
     if is_said {
         let to = first_said(sequences, answer, low, high)?;
@@ -189,11 +189,11 @@ fn first_unsaid<S: SpanSource, A: TableAnswer>(
     requires { IsBelow low high }
     ensures past { IfOk result (λ to. IsAtMost low to) }
     ensures upto { IfOk result (λ to. IsAtMost to high) }
-    ensures kept { IfOk result (λ to. StillSay S.to_come (A.tell answer.now) (A.told answer.now) sequences.old sequences.new low to high) }
+    ensures kept { IfOk result (λ to. StillSay S.to_come (A.tell answer.now) (A.said answer.now) sequences.old sequences.new low to high) }
     ensures said { IfOk result (λ to. (p : spec_position.Position) → IsAtMost low p → IsBelow p to
-        → OneSays S.to_come (A.tell answer.now) (A.told answer.now) sequences.old low p) }
+        → OneSays S.to_come (A.tell answer.now) (A.said answer.now) sequences.old low p) }
     ensures unsaid { IfOk result (λ to. IsBelow to high
-        → NoneSays S.to_come (A.tell answer.now) (A.told answer.now) sequences.old low to) }
+        → NoneSays S.to_come (A.tell answer.now) (A.said answer.now) sequences.old low to) }
 {
     let mut at = low;
     loop {
@@ -218,11 +218,11 @@ fn said_by_turns<S: SpanSource, A: TableAnswer>(
     requires { IsBelow at end }
     ensures past { IfOk result (λ to. IsAtMost at to) }
     ensures upto { IfOk result (λ to. IsAtMost to end) }
-    ensures kept { IfOk result (λ to. StillSay S.to_come (A.tell answer.now) (A.told answer.now) sequences.old sequences.new at to end) }
+    ensures kept { IfOk result (λ to. StillSay S.to_come (A.tell answer.now) (A.said answer.now) sequences.old sequences.new at to end) }
     ensures said { IfOk result (λ to. (p : spec_position.Position) → IsAtMost at p → IsBelow p to
-        → OneSays S.to_come (A.tell answer.now) (A.told answer.now) sequences.old at p) }
+        → OneSays S.to_come (A.tell answer.now) (A.said answer.now) sequences.old at p) }
     ensures unsaid { IfOk result (λ to. IsAtMost to at
-        → NoneSays S.to_come (A.tell answer.now) (A.told answer.now) sequences.old at at) }
+        → NoneSays S.to_come (A.tell answer.now) (A.said answer.now) sequences.old at at) }
     ensures fewer { IfOk result (λ to. IsBelow at to → IsBelow to end → all_left S.left sequences.new < all_left S.left sequences.old) }
 {
     let mut to = at;
@@ -242,11 +242,11 @@ fn first_said<S: SpanSource, A: TableAnswer>(
     requires { IsAtMost low high }
     ensures past { IfOk result (λ to. IsAtMost low to) }
     ensures upto { IfOk result (λ to. IsAtMost to high) }
-    ensures kept { IfOk result (λ _. StillSay S.to_come (A.tell answer.now) (A.told answer.now) sequences.old sequences.new low low high) }
+    ensures kept { IfOk result (λ _. StillSay S.to_come (A.tell answer.now) (A.said answer.now) sequences.old sequences.new low low high) }
     ensures unsaid { IfOk result (λ to. (p : spec_position.Position) → IsAtMost low p → IsBelow p to
-        → NoneSays S.to_come (A.tell answer.now) (A.told answer.now) sequences.old low p) }
+        → NoneSays S.to_come (A.tell answer.now) (A.said answer.now) sequences.old low p) }
     ensures said { IfOk result (λ to. IsBelow to high
-        → OneSays S.to_come (A.tell answer.now) (A.told answer.now) sequences.old low to) }
+        → OneSays S.to_come (A.tell answer.now) (A.said answer.now) sequences.old low to) }
 {
     let mut to = high;
     for sequence in sequences.iter_mut() {

@@ -17,7 +17,7 @@ use crate::path_tables::answer::{AnswerByPath, DifferenceByPath};
 use crate::path_tables::comparison::whole;
 use crate::path_tables::held::HeldSpan;
 use crate::path_tables::telling::{PathMemory, PathTelling};
-use lnt_records::{PathVersion, Paths, SaidPath};
+use lnt_records::{HeldPath, PathVersion, Paths};
 use lnt_spans::{Position, Run, Runs, SpanSource, Stretches, next_stretch, stretch_end};
 use std::alloc::{AllocError, Global};
 use std::marker::PhantomData;
@@ -31,7 +31,7 @@ use std::marker::PhantomData;
 #[derive(Drop)]
 pub struct DifferencesByPath<'t, S> {
     version: PathVersion,
-    stretches: Stretches<S, HeldSpans<'t>, SaidPath<'t>>,
+    stretches: Stretches<S, HeldSpans<'t>, HeldPath<'t>>,
     // `None` before the first stretch is asked for
     memory: Option<PathMemory>,
 }
@@ -169,7 +169,7 @@ fn keep(kept: &mut Option<PathMemory>, memory: PathMemory)
     *kept = Some(memory);
 }
 
-impl<'t> Runs<SaidPath<'t>> for HeldSpans<'t> {
+impl<'t> Runs<HeldPath<'t>> for HeldSpans<'t> {
     ghost use Rattle.lnt_records.specs.PathSpans.{PathAnswer};
     ghost use Rattle.lnt_records.specs.PathTables.{said_answer};
     ghost use Rattle.lnt_compare.specs.Held.{IsTableAt, held_end, held_runs};
@@ -184,7 +184,7 @@ impl<'t> Runs<SaidPath<'t>> for HeldSpans<'t> {
 
     ghost runs = { λ held at. held_runs at held.spans.now };
 
-    fn run_at(&self, at: Position) -> Run<SaidPath<'t>> {
+    fn run_at(&self, at: Position) -> Run<HeldPath<'t>> {
         let Some((span, _)) = self.spans.split_first() else {
             return Run {
                 answer: None,
@@ -215,10 +215,10 @@ impl<'t> Runs<SaidPath<'t>> for HeldSpans<'t> {
 }
 
 // A held answer; the path is borrowed.
-fn said_in<'t>(answer: &'t AnswerByPath) -> SaidPath<'t>
+fn said_in<'t>(answer: &'t AnswerByPath) -> HeldPath<'t>
     ensures { said_answer result ≡ told_path_answer answer.now }
 {
-    SaidPath {
+    HeldPath {
         path: answer.path.as_slice(),
         line: answer.line,
         column: answer.column,

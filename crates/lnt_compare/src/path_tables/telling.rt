@@ -8,7 +8,7 @@ ghost use Rattle.lnt_records.specs.PathTables.{said_answer};
 
 use crate::path_tables::answer::{AnswerByPath, DifferenceByPath};
 use crate::path_tables::known::has_told_path;
-use lnt_records::{FileTexts, PathFields, PathVersion, Paths, SaidPath, ToldFiles};
+use lnt_records::{FileTexts, HeldPath, PathFields, PathVersion, Paths, ToldFiles};
 use lnt_spans::{Answer, Position, Telling};
 use std::alloc::{AllocError, Global};
 use std::marker::PhantomData;
@@ -59,7 +59,7 @@ impl<'p, 'r, P: Paths> Telling for PathTelling<'p, 'r, P> {
     ghost use Rattle.lnt_compare.specs.PathStretches.{stretch_of};
     ghost use Rattle.lnt_records.specs.PathTables.{said_answer};
 
-    type Said = SaidPath<'r>;
+    type Held = HeldPath<'r>;
 
     type Memory = PathMemory;
 
@@ -104,7 +104,7 @@ impl<'p, 'r, P: Paths> Telling for PathTelling<'p, 'r, P> {
         memory: &mut PathMemory,
         recalled: &mut ToldFiles,
         answer: &Answer,
-        held: SaidPath<'r>,
+        held: HeldPath<'r>,
     ) -> Result<bool, AllocError> {
         if answer.line != held.line || column_in(self.version, answer.column) != held.column {
             return Ok(false);
@@ -120,14 +120,14 @@ impl<'p, 'r, P: Paths> Telling for PathTelling<'p, 'r, P> {
         )
     }
 
-    fn same_said(&self, one: SaidPath<'r>, other: SaidPath<'r>) -> bool {
+    fn same_said(&self, one: HeldPath<'r>, other: HeldPath<'r>) -> bool {
         one.line == other.line && one.column == other.column && one.path == other.path
     }
 
     fn difference(
         &self,
         position: Position,
-        by_table: Option<SaidPath<'r>>,
+        by_table: Option<HeldPath<'r>>,
         by_section: Option<Answer>,
     ) -> Result<DifferenceByPath, AllocError>
         ensures { IfOk result (λ difference. stretch_of difference ≡ stretch_at position
@@ -151,7 +151,7 @@ impl<'p, 'r, P: Paths> Telling for PathTelling<'p, 'r, P> {
 }
 
 // The answer of a record, with an owned path.
-pub(crate) fn said_of(alloc: Global, held: SaidPath<'_>) -> Result<AnswerByPath, AllocError>
+pub(crate) fn said_of(alloc: Global, held: HeldPath<'_>) -> Result<AnswerByPath, AllocError>
     ensures { IfOk result (λ told. told_path_answer told ≡ said_answer held.entry) }
 {
     let path = Vec::from_slice(alloc, held.path)?;

@@ -4,7 +4,7 @@ ghost use Rattle.lnt_text.specs.Digits.{IsDecimal};
 ghost use Rattle.lnt_records.specs.PathLines.{IsPathBefore, IsPathLine, IsPlace, IsPlainByte};
 
 use crate::path_records::field::calls_for_quotes;
-use crate::path_records::record::{PathRecord, SaidPath};
+use crate::path_records::record::{HeldPath, PathRecord};
 use crate::path_records::version::PathVersion;
 use lnt_text::{address_until, decimal_until, past};
 
@@ -24,7 +24,7 @@ pub fn first_record<'t>(
     let (high, at) = address_until(text, at, b',')?;
     let (path, at) = path_before(text, at, last)?;
     let ((line, column), at) = place_at(text, at, version)?;
-    let answer = SaidPath { path, line, column };
+    let answer = HeldPath { path, line, column };
     Some((PathRecord { low, high, answer }, at))
 }
 

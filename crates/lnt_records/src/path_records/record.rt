@@ -14,7 +14,7 @@ use lnt_csv::field;
 
 /// The answer of a record; the path is borrowed.
 #[derive(Clone, Copy)]
-pub struct SaidPath<'r> {
+pub struct HeldPath<'r> {
     /// The full path of the file, as bytes.
     pub path: &'r [u8],
     /// The line in the file.
@@ -31,7 +31,7 @@ pub struct PathRecord<'r> {
     /// The first address after it.
     pub high: u64,
     /// What the record says of the positions between them.
-    pub answer: SaidPath<'r>,
+    pub answer: HeldPath<'r>,
 }
 
 // The columns of a table by path.
@@ -60,7 +60,7 @@ pub fn record_of<'r>(
     let path = field(row, 2);
     let line = decimal_at::<ByPath>(row, 3)?;
     let column = column_in(row, version)?;
-    let answer = SaidPath { path, line, column };
+    let answer = HeldPath { path, line, column };
     Ok(PathRecord { low, high, answer })
 }
 

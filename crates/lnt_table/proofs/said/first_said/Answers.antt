@@ -37,7 +37,7 @@ loop-sequence-preserved g c =
     let i = c.loop-sequence.sequence-index in
     let inside : i < length now = omega (arith, c.loop-sequence-test.true, c.loop-sequence.auto.sequences) in
     let tell = g.A.TableAnswer.tell c.args.answer.now in
-    let told = g.A.TableAnswer.told c.args.answer.now in
+    let told = g.A.TableAnswer.said c.args.answer.now in
     let item : (d : SequenceSpans _) (whole : Position) (answers : Position → Option Answer)
     → SaysFrom g.S.SpanSource.to_come tell told (get_or c.args.sequences.now i d) c.args.low whole answers
     → SaysFrom g.S.SpanSource.to_come tell told (get_or now i c.sequence-item.result) c.args.low whole answers =
@@ -66,7 +66,7 @@ loop-sequence-preserved g c =
       said = λ below. elim (order_cases c.in_ok-to.to c.loop-sequence.to) [
         | inl early ↦ (i, omega (arith, inside, inv.count), λ d whole answers h. one.said early whole answers (item d whole answers h))
         | inr late ↦ subst (λ (q : Position). OneSays g.S.SpanSource.to_come (g.A.TableAnswer.tell c.args.answer.now)
-            (g.A.TableAnswer.told c.args.answer.now) c.args.sequences.now c.args.low q)
+            (g.A.TableAnswer.said c.args.answer.now) c.args.sequences.now c.args.low q)
             (same_position c.loop-sequence.to c.in_ok-to.to one.upto late) (inv.said (at_most_below late below))
       ];
     }

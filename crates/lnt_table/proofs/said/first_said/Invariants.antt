@@ -12,12 +12,12 @@ invariant-loop-sequence g l = record {
   upto : IsAtMost l.to l.fn.high;
   count : length l.sequences ≡ length l.fn.sequences;
   ahead : (k : ℕ) (d : SequenceSpans _) → l.sequence-index ≤ k → get_or l.sequences k d ≡ get_or l.fn.sequences k d;
-  kept : StillSay g.S.SpanSource.to_come (g.A.TableAnswer.tell l.answer) (g.A.TableAnswer.told l.answer) l.fn.sequences l.sequences
+  kept : StillSay g.S.SpanSource.to_come (g.A.TableAnswer.tell l.answer) (g.A.TableAnswer.said l.answer) l.fn.sequences l.sequences
       l.fn.low l.fn.low l.fn.high;
   unsaid : (k : ℕ) (d : SequenceSpans _) (whole : Position) (answers : Position → Option Answer) → k < l.sequence-index
-      → SaysFrom g.S.SpanSource.to_come (g.A.TableAnswer.tell l.answer) (g.A.TableAnswer.told l.answer) (get_or l.fn.sequences k d)
+      → SaysFrom g.S.SpanSource.to_come (g.A.TableAnswer.tell l.answer) (g.A.TableAnswer.said l.answer) (get_or l.fn.sequences k d)
       l.fn.low whole answers → (p : Position) → IsAtMost l.fn.low p → IsBelow p l.to
-      → Says (g.A.TableAnswer.tell l.answer) (g.A.TableAnswer.told l.answer) answers p → ⊥;
+      → Says (g.A.TableAnswer.tell l.answer) (g.A.TableAnswer.said l.answer) answers p → ⊥;
   said : IsBelow l.to l.fn.high
-      → OneSays g.S.SpanSource.to_come (g.A.TableAnswer.tell l.answer) (g.A.TableAnswer.told l.answer) l.fn.sequences l.fn.low l.to;
+      → OneSays g.S.SpanSource.to_come (g.A.TableAnswer.tell l.answer) (g.A.TableAnswer.said l.answer) l.fn.sequences l.fn.low l.to;
 }

@@ -38,7 +38,7 @@ returns-then-ge-2-clause-upto g c = below_is_at_most c.loop-to.invariant.below
 pub returns-then-ge-2-clause-kept : goal.returns-then-ge-2-clause-kept
 returns-then-ge-2-clause-kept g c =
     subst (λ (q : Position). StillSay g.S.SpanSource.to_come (g.A.TableAnswer.tell c.args.answer.now)
-    (g.A.TableAnswer.told c.args.answer.now) c.args.sequences.now c.said_by_turns.new.sequences c.args.low q c.args.high)
+    (g.A.TableAnswer.said c.args.answer.now) c.args.sequences.now c.said_by_turns.new.sequences c.args.low q c.args.high)
     (same_position c.in_ok-to.to c.loop-to.at c.in_ok-to.ensures.past (at_most_from_ge c.if-ge-2.ensures))
     (still_then g.S.SpanSource.to_come _ _ _ _ _ _ _ _ c.args.high c.loop-to.invariant.still c.in_ok-to.ensures.kept)
 

@@ -7,10 +7,10 @@ abbrev pub invariant-loop-to : goal.invariant-loop-to
 invariant-loop-to g l = record {
   past : IsAtMost l.fn.low l.at;
   below : IsBelow l.at l.fn.high;
-  still : StillSay g.S.SpanSource.to_come (g.A.TableAnswer.tell l.answer) (g.A.TableAnswer.told l.answer) l.fn.sequences l.sequences
+  still : StillSay g.S.SpanSource.to_come (g.A.TableAnswer.tell l.answer) (g.A.TableAnswer.said l.answer) l.fn.sequences l.sequences
       l.fn.low l.at l.fn.high;
   said : (p : Position) → IsAtMost l.fn.low p → IsBelow p l.at
-      → OneSays g.S.SpanSource.to_come (g.A.TableAnswer.tell l.answer) (g.A.TableAnswer.told l.answer) l.fn.sequences l.fn.low p;
+      → OneSays g.S.SpanSource.to_come (g.A.TableAnswer.tell l.answer) (g.A.TableAnswer.said l.answer) l.fn.sequences l.fn.low p;
 }
 
 abbrev pub decreases-loop-to : goal.decreases-loop-to

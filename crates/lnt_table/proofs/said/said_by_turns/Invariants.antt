@@ -10,14 +10,14 @@ abbrev pub invariant-loop-sequence : goal.invariant-loop-sequence
 invariant-loop-sequence g l = record {
   past : IsAtMost l.fn.at l.to;
   upto : IsAtMost l.to l.fn.end;
-  still : StillSay g.S.SpanSource.to_come (g.A.TableAnswer.tell l.answer) (g.A.TableAnswer.told l.answer) l.fn.sequences l.sequences
+  still : StillSay g.S.SpanSource.to_come (g.A.TableAnswer.tell l.answer) (g.A.TableAnswer.said l.answer) l.fn.sequences l.sequences
       l.fn.at l.to l.fn.end;
   said : (p : Position) → IsAtMost l.fn.at p → IsBelow p l.to
-      → OneSays g.S.SpanSource.to_come (g.A.TableAnswer.tell l.answer) (g.A.TableAnswer.told l.answer) l.fn.sequences l.fn.at p;
+      → OneSays g.S.SpanSource.to_come (g.A.TableAnswer.tell l.answer) (g.A.TableAnswer.said l.answer) l.fn.sequences l.fn.at p;
   unsaid : IsAtMost l.to l.fn.at → (k : ℕ) (d : SequenceSpans _) (whole : Position) (answers : Position → Option Answer)
-      → k < l.sequence-index → SaysFrom g.S.SpanSource.to_come (g.A.TableAnswer.tell l.answer) (g.A.TableAnswer.told l.answer)
+      → k < l.sequence-index → SaysFrom g.S.SpanSource.to_come (g.A.TableAnswer.tell l.answer) (g.A.TableAnswer.said l.answer)
       (get_or l.fn.sequences k d) l.fn.at whole answers
-      → Says (g.A.TableAnswer.tell l.answer) (g.A.TableAnswer.told l.answer) answers l.fn.at → ⊥;
+      → Says (g.A.TableAnswer.tell l.answer) (g.A.TableAnswer.said l.answer) answers l.fn.at → ⊥;
   most : all_left g.S.SpanSource.left l.sequences ≤ all_left g.S.SpanSource.left l.fn.sequences;
   fewer : IsBelow l.fn.at l.to → IsBelow l.to l.fn.end
       → all_left g.S.SpanSource.left l.sequences < all_left g.S.SpanSource.left l.fn.sequences;

@@ -18,7 +18,7 @@ loop-to-init g c = record {
   below = c.requires.some;
   so = λ selection is live ready. (
     λ p le lt. absurd (not_both lt le),
-    ready_again (g.A.TableAnswer.tell c.args.answer.now) (g.A.TableAnswer.told c.args.answer.now) selection c.args.self.now c.go_to.new.self
+    ready_again (g.A.TableAnswer.tell c.args.answer.now) (g.A.TableAnswer.said c.args.answer.now) selection c.args.self.now c.go_to.new.self
         c.args.low c.args.high (below_is_at_most c.requires.some) c.go_to.ensures.index c.go_to.ensures.extents c.in_ok-go_to.ensures.ready
         is ready,
   );
@@ -40,7 +40,7 @@ loop-to-preserved g c =
     let inv = c.loop-to.invariant in
     let on = c.go_to-in-loop-to.ensures in
     let tell = g.A.TableAnswer.tell c.args.answer.now in
-    let told = g.A.TableAnswer.told c.args.answer.now in
+    let told = g.A.TableAnswer.said c.args.answer.now in
     let upto = at_most_from_not_lt c.if-lt.ensures in
     let below = below_from_not_ge c.if-ge.ensures in
     record {
@@ -86,7 +86,7 @@ returns-then-ge-clause-found g c selection is live ready =
     let turn = (rw inv.index at c.in_ok-to.ensures.turn) selection is live c.args.high c.end-end.ensures.upto so.1 in (
       so_on _ c.args.low c.loop-to.at c.args.high so.0 (λ p le lt. turn.0.passed p le (below_at_most lt upto)),
       subst (λ (q : Position). AreReady (g.A.TableAnswer.tell c.args.answer.now) selection c.turn_in_group.new.self
-          (Some (g.A.TableAnswer.told c.args.answer.now)) q c.args.high)
+          (Some (g.A.TableAnswer.said c.args.answer.now)) q c.args.high)
           (same_position c.in_ok-to.to c.args.high upto (at_most_trans c.in_ok-to.ensures.upto c.end-end.ensures.upto)) turn.1,
     )
 

@@ -15,11 +15,11 @@ invariant-loop-to g l = record {
   past : IsAtMost l.fn.low l.at;
   below : IsBelow l.at l.fn.high;
   so : OfLive l.fn.self.index.now (λ selection.
-      AreReady (g.A.TableAnswer.tell l.answer) selection l.fn.self (Some (g.A.TableAnswer.told l.answer)) l.fn.low l.fn.high
+      AreReady (g.A.TableAnswer.tell l.answer) selection l.fn.self (Some (g.A.TableAnswer.said l.answer)) l.fn.low l.fn.high
       → IsSoFrom
-      (λ p. IsPassed l.is_said (IsAnyAnswer (g.A.TableAnswer.tell l.answer) selection p (Some (g.A.TableAnswer.told l.answer))))
+      (λ p. IsPassed l.is_said (IsAnyAnswer (g.A.TableAnswer.tell l.answer) selection p (Some (g.A.TableAnswer.said l.answer))))
       l.fn.low l.at
-      × AreReady (g.A.TableAnswer.tell l.answer) selection l.self (Some (g.A.TableAnswer.told l.answer)) l.at l.fn.high);
+      × AreReady (g.A.TableAnswer.tell l.answer) selection l.self (Some (g.A.TableAnswer.said l.answer)) l.at l.fn.high);
 }
 
 abbrev pub decreases-loop-to : goal.decreases-loop-to

@@ -12,7 +12,7 @@ use Rattle.lnt_table.proofs.copies.Copies.turn_in_group.Goals as goal
 pub returns-clause-turn : goal.returns-clause-turn
 returns-clause-turn g c selection is live whole upto ready =
     let tell = g.A.TableAnswer.tell c.args.answer.now in
-    let told = g.A.TableAnswer.told c.args.answer.now in
+    let told = g.A.TableAnswer.said c.args.answer.now in
     let copies = c.args.self.now in
     let group = c.requires.copies.group in
     let turns = rw c.deref_mut.ensures.value at c.in_ok-to.ensures.turns in

@@ -1,6 +1,6 @@
 use Rattle.lnt_spans.proofs.DerivedOrder.{at_most_from_ge, below_from_not_ge}
 use Rattle.lnt_compare.proofs.TableRunLemmas.{kept_at, nothing_at, rest_at}
-use Rattle.lnt_compare.proofs.path_tables.path_differences.HeldSpansRunsSaidPath.pass_to.Goals as goal
+use Rattle.lnt_compare.proofs.path_tables.path_differences.HeldSpansRunsHeldPath.pass_to.Goals as goal
 
 pub returns-in_default-clause-at : goal.returns-in_default-clause-at
 returns-in_default-clause-at c at values t le up =

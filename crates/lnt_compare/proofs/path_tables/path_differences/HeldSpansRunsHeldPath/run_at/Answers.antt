@@ -1,6 +1,6 @@
 use Rattle.lnt_spans.proofs.DerivedOrder.{at_most_from_not_lt, below_from_lt}
 use Rattle.lnt_compare.proofs.TableRunLemmas.{gap_run, held_run, nothing_run}
-use Rattle.lnt_compare.proofs.path_tables.path_differences.HeldSpansRunsSaidPath.run_at.Goals as goal
+use Rattle.lnt_compare.proofs.path_tables.path_differences.HeldSpansRunsHeldPath.run_at.Goals as goal
 
 pub returns-in_default-clause-run : goal.returns-in_default-clause-run
 returns-in_default-clause-run c values t = nothing_run c.args.self.now.spans.now c.args.at values t c.in_default.ensures.cases
