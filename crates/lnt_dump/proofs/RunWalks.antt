@@ -217,7 +217,7 @@ module _ {view : View} {walk walk' : Walk} {run : RunState} (header : IsHeader v
   judging_next {item = item} step on = record {
     ops = j.ops ++ step.gives.op ∷ [];
     given = given_more view j.ops step.gives.op item walk walk' j.given step step.gives.stands;
-    header = on.machine.numbers ∙ j.header ∙ sym step.header_is;
+    header = on.machine.done.numbers ∙ j.header ∙ sym step.header_is;
     running = λ all p. running_next header (j.running all p) step is on;
   }
 

@@ -122,14 +122,14 @@ module _ {h : NumberParts} {ops : List Op} {run run' : RunState} {item : OpView}
       let back = reverse ops in
       let so_far = rows_of_ops h ops in
       ap (λ (m : Option Row). so_far ++ cons_option m [])
-      (on.machine.row_is back op ran.stands stands ∙ ap (λ (g : NumberParts). row_made g back op) ran.header_is)
+      (on.machine.done.row_is back op ran.stands stands ∙ ap (λ (g : NumberParts). row_made g back op) ran.header_is)
       ∙ ap (λ (b : List Op). so_far ++ cons_option (row_made h b op) []) (sym (append-nil back))
       ∙ sym (rows_after-append h [] ops op)
 
   pub ran_next : length ops + 1 < 2 ^ 64 → HasRan h (ops ++ op ∷ []) run'
   ran_next few =
-      let after : StandsAfter run'.machine (op ∷ reverse ops) = on.machine.stands (reverse ops) op ran.stands stands in
-      let header : run'.machine.numbers ≡ h = on.machine.numbers ∙ ran.header_is in
+      let after : StandsAfter run'.machine (op ∷ reverse ops) = on.machine.done.stands (reverse ops) op ran.stands stands in
+      let header : run'.machine.numbers ≡ h = on.machine.done.numbers ∙ ran.header_is in
       let cut = cut_next (rows_of_ops h ops) ran.left ran.ended run.is_open made ran.cut ran.open_is in
       record {
         header_is = header;

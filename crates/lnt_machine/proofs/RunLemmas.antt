@@ -32,8 +32,8 @@ runs_on view run machine machine' before after row e steps open_is =
       machine = steps;
       open_is = open_is;
       done = λ back op has stands. record {
-        machine = steps.stands back op has.machine stands;
+        machine = steps.done.stands back op has.machine stands;
         open_is = open_is ∙ ap (λ (was : Bool). open_with was row) has.open_is
-            ∙ ap (open_with (leaves_open back)) (steps.row_is back op has.machine stands) ∙ open_more machine.numbers back op;
+            ∙ ap (open_with (leaves_open back)) (steps.done.row_is back op has.machine stands) ∙ open_more machine.numbers back op;
       };
     })

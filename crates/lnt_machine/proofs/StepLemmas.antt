@@ -1,6 +1,8 @@
 -- A machine that did an operation stands after it.
 use Rattle.std.proofs.Common.{◌≡◌, ℕ, ◌+◌, ◌-◌, ◌*◌, ◌%◌, min, ◌^◌, ◌<◌, List, ◌∷◌, refl, sym, ap, subst, ◌∙◌, true, false, arith}
-use Rattle.std.specs.Prelude.{ℤ, pos, negsuc, unsigned_abs, Option}
+use Rattle.std.proofs.Common.{Bool, Result, Ok, Err}
+use Rattle.std.specs.Prelude.{ℤ, pos, negsuc, unsigned_abs, Option, Some, None, IfOk, IsOk, OnErr, if◌then◌else◌}
+use Rattle.std.specs.Bool.{then_some}
 use Rattle.std.proofs.Math.Nat.{mod-lt}
 use Rattle.std.proofs.Math.Pow.{pow_pos}
 use Rattle.std.proofs.lemmas.Int.{ints}
@@ -14,9 +16,10 @@ use Rattle.lnt_header.specs.HeaderRules.{AreHeaderNumbers}
 use Rattle.lnt_header.specs.OpRules.{op_of, StandsFor, Admits}
 use Rattle.lnt_ops.proofs.ViewLaws.{is_op_of, operands_of}
 use Rattle.lnt_machine.specs.Changes.{changed, Changes, initial_registers, IsAllowed, line_reached, made, plain}
+use Rattle.lnt_machine.specs.declared.registers.OutOfRange.{OutOfRange}
 use Rattle.lnt_machine.specs.Matrix.{row_made, Row}
 use Rattle.lnt_machine.specs.Registers.{IsLine, line, registers_after}
-use Rattle.lnt_machine.specs.State.{IsBounded, StandsAfter, MachineState, LeavesRange, Steps}
+use Rattle.lnt_machine.specs.State.{IsBounded, StandsAfter, MachineState, LeavesRange, Does, Steps}
 use Rattle.lnt_machine.proofs.ChangeLemmas.{changed_after, line_from, line_into, made_after, pow_bytes}
 
 -- ---- views
@@ -81,7 +84,7 @@ bounded_initial h valid = record { address = pow_pos (8 * h.address_size); op_in
 abbrev state : NumberParts → Row → ℕ → MachineState
 state h registers count = record { numbers = h; registers = registers; count = count }
 
-pub step_bounded : (machine : MachineState) (h : NumberParts) (view : OpView) (old new : Row) (row : Option Row) (m : ℕ)
+step_bounded : (machine : MachineState) (h : NumberParts) (view : OpView) (old new : Row) (row : Option Row) (m : ℕ)
     → state h old m ≡ machine
     → (o : Op) × StandsFor view o × Admits machine.numbers o → IsBounded h old → Changes h (plain view) old new row → IsBounded h new
 step_bounded machine h view old new row m e (o, w, admits) b c =
@@ -111,19 +114,36 @@ row_more h view old new row m back op b c s v =
     c.row_is ∙ ap (λ (r : Row). made h r (plain view)) s.registers ∙ made_after h back (plain view) some s.line
     ∙ (does_the_same h back view op v).row
 
-pub steps : (machine : MachineState) (h : NumberParts) (view : OpView) (old new : Row) (row : Option Row) (m n : ℕ)
-    → state h old m ≡ machine
+does : (machine : MachineState) (h : NumberParts) (view : OpView) (old new : Row) (row : Option Row) (m n : ℕ) → state h old m ≡ machine
     → (o : Op) × StandsFor view o × Admits machine.numbers o → IsBounded h old → Changes h (plain view) old new row
-    → n ≡ min (m + 1) (2 ^ 64 - 1)
-    → Steps view machine (state h new n) row
-steps machine h view old new row m n e (o, w, admits) b c count =
+    → Does view machine (state h new n) row
+does machine h view old new row m n e (o, w, admits) b c =
     let a : IsAllowed h (plain view) = allowed h view o w (subst (λ (x : MachineState). Admits x.numbers o) (sym e) admits) in
-    subst (λ (x : MachineState). Steps view x (state h new n) row) e (record {
+    subst (λ (x : MachineState). Does view x (state h new n) row) e (record {
       stands = λ back op s v. stands_more h view old new row m n back op b a c s v;
       row_is = λ back op s v. row_more h view old new row m back op b c s v;
       numbers = refl;
-      count = count;
     })
+
+pub some_if : (given : Bool) (row : Row) → then_some given row ≡ (if given then Some row else None)
+some_if true row = refl
+some_if false row = refl
+
+-- it was counted
+pub counted : (view : OpView) (old new : MachineState) (h : NumberParts) (registers : Row) (m n : ℕ) (row : Option Row)
+    → state h registers m ≡ new → Does view old new row → new.count ≡ old.count → n ≡ min (m + 1) (2 ^ 64 - 1)
+    → Steps view old (state h registers n) row
+counted view old new h registers m n row e d same is =
+    let here : Does view old (state h registers m) row = subst (λ (x : MachineState). Does view old x row) (sym e) d in
+    let count : m ≡ old.count = ap (λ (x : MachineState). x.count) e ∙ same in
+    record {
+      done = record {
+        stands = λ back op s v. let t = here.stands back op s v in record { registers = t.registers; line = t.line };
+        row_is = here.row_is;
+        numbers = here.numbers;
+      };
+      count = is ∙ ap (λ (k : ℕ). min (k + 1) (2 ^ 64 - 1)) count;
+    }
 
 -- the line would be out of range
 refused : (h : NumberParts) (view : OpView) (old : Row) (m : ℕ) (back : List Op) (op : Op) → (IsLine (line_reached h old (plain view)) → ⊥)
@@ -133,11 +153,32 @@ refused h view old m back op out s v fits =
     out (subst (λ (r : Row). IsLine (line_reached h r (plain view))) (sym s.registers)
     (line_from h back (plain view) s.line (subst IsLine (sym same.line) fits)))
 
-pub step_refused : (machine : MachineState) (h : NumberParts) (view : OpView) (old : Row) (m : ℕ) → state h old m ≡ machine
+step_refused : (machine : MachineState) (h : NumberParts) (view : OpView) (old : Row) (m : ℕ) → state h old m ≡ machine
     → (IsLine (line_reached h old (plain view)) → ⊥) → LeavesRange view machine
 step_refused machine h view old m e out = subst (LeavesRange view) e (λ back op s v fits. refused h view old m back op out s v fits)
 
-pub step_in_range : (machine : MachineState) (h : NumberParts) (view : OpView) (old : Row) (m : ℕ) → state h old m ≡ machine
-    → (IsLine (line_reached h old (plain view)) → ⊥)
-    → (back : List Op) (op : Op) → StandsAfter machine back → StandsFor view op → IsLine (line machine.numbers (op ∷ back)) → false ≡ true
-step_in_range machine h view old m e out back op s v fits = absurd (step_refused machine h view old m e out back op s v fits)
+-- ---- what a change of the registers gives of the machine
+
+module _ (machine : MachineState) (h : NumberParts) (view : OpView) (old new : Row) (row : Bool → Option Row) (m n : ℕ)
+    (e : state h old m ≡ machine) where
+  pub bounded_after : (r : Result Bool OutOfRange) → (o : Op) × StandsFor view o × Admits machine.numbers o → IsBounded h old
+      → IfOk r (λ appends. Changes h (plain view) old new (row appends)) → OnErr r (new ≡ old) → IsBounded h new
+  bounded_after (Ok appends) allows b c same = step_bounded machine h view old new (row appends) m e allows b c
+  bounded_after (Err out) allows b c same = subst (IsBounded h) (sym same) b
+
+  pub does_after : (r : Result Bool OutOfRange) → (o : Op) × StandsFor view o × Admits machine.numbers o → IsBounded h old
+      → IfOk r (λ appends. Changes h (plain view) old new (row appends))
+      → IfOk r (λ appends. Does view machine (state h new n) (row appends))
+  does_after (Ok appends) allows b c = does machine h view old new (row appends) m n e allows b c
+  does_after (Err out) allows b c = tt
+
+module _ (machine : MachineState) (h : NumberParts) (view : OpView) (old : Row) (m : ℕ) (e : state h old m ≡ machine) where
+  pub refused_after : (r : Result Bool OutOfRange) → OnErr r (IsLine (line_reached h old (plain view)) → ⊥)
+      → OnErr r (LeavesRange view machine)
+  refused_after (Ok appends) out = tt
+  refused_after (Err x) out = step_refused machine h view old m e out
+
+  pub in_range_after : (r : Result Bool OutOfRange) → OnErr r (IsLine (line_reached h old (plain view)) → ⊥) → (back : List Op) (op : Op)
+      → StandsAfter machine back → StandsFor view op → IsLine (line machine.numbers (op ∷ back)) → IsOk r
+  in_range_after (Ok appends) out back op s v fits = refl
+  in_range_after (Err x) out back op s v fits = absurd (step_refused machine h view old m e out back op s v fits)

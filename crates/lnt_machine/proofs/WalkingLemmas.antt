@@ -14,7 +14,7 @@ use Rattle.lnt_machine.proofs.RanLaws.{no_row}
 use Rattle.lnt_machine.specs.Matrix.{row_made, rows_after, Row}
 use Rattle.lnt_machine.specs.Running.{first_sequence}
 use Rattle.lnt_machine.specs.Registers.{IsLine, line}
-use Rattle.lnt_machine.specs.State.{StandsAfter, MachineState, LeavesRange, Steps}
+use Rattle.lnt_machine.specs.State.{StandsAfter, MachineState, LeavesRange, Does}
 use Rattle.lnt_machine.specs.Walking.{GivesFirstRow, GivesRow, HasRows, IsSequencePlace, LinesAfter, SequenceWalk, WillGive}
 use Rattle.lnt_machine.specs.Stepping.{GivesNext}
 use Rattle.lnt_machine.specs.Walking.WillGive.{none, some}
@@ -28,7 +28,7 @@ record IsDone (h : NumberParts) (rows : List Row) (made : Option Row) (machine :
 -- the walk gives an operation
 module _ {h : NumberParts} {rows : List Row} {view : OpView} {old new : Walk} {machine : MachineState} (has : HasRows h rows machine old)
     (step : GivesOperation view old new) where
-  next_done : {machine' : MachineState} {made : Option Row} → Steps view machine machine' made → IsDone h rows made machine' new
+  next_done : {machine' : MachineState} {made : Option Row} → Does view machine machine' made → IsDone h rows made machine' new
   next_done {machine'} {made} steps =
       let next = left_next h has.later view old new has.valid has.left step in
       let lines : LinesAfter h has.back (next.op ∷ next.others) = subst (LinesAfter h has.back) next.later_is has.lines in
@@ -51,14 +51,14 @@ module _ {h : NumberParts} {rows : List Row} {view : OpView} {old new : Walk} {m
       }
 
   -- it makes no row
-  pub next_quiet : {machine' : MachineState} {made : Option Row} → Steps view machine machine' made
+  pub next_quiet : {machine' : MachineState} {made : Option Row} → Does view machine machine' made
       → ((row : Row) → made ≡ Some row → ⊥) → HasRows h rows machine' new
   next_quiet {machine'} {made} steps quiet =
       let one = next_done steps in
       subst (λ (list : List Row). HasRows h list machine' new) (sym (one.rows_are ∙ no_row made one.others quiet)) one.has
 
   -- it makes a row
-  pub next_row : {machine' : MachineState} {made : Option Row} {row : Row} → Steps view machine machine' made → made ≡ Some row
+  pub next_row : {machine' : MachineState} {made : Option Row} {row : Row} → Does view machine machine' made → made ≡ Some row
       → GivesNext h rows (Some row) machine' new
   next_row {machine'} {made} {row} steps is =
       let one = next_done steps in

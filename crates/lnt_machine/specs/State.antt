@@ -28,12 +28,15 @@ pub record IsBounded (h : NumberParts) (registers : Row) : Type 0 where
 -- ---- what a step of a machine does
 
 -- The operation was done: for each list after which the machine stood, it now stands after that list with this operation
--- appended, and the row is the one that this operation appends after that list. The count increases by 1, up to the
--- greatest number.
-pub record Steps (view : OpView) (old new : MachineState) (row : Option Row) : Type 0 where
+-- appended, and the row is the one that this operation appends after that list.
+pub record Does (view : OpView) (old new : MachineState) (row : Option Row) : Type 0 where
   pub stands : (back : List Op) (op : Op) → StandsAfter old back → StandsFor view op → StandsAfter new (op ∷ back)
   pub row_is : (back : List Op) (op : Op) → StandsAfter old back → StandsFor view op → row ≡ row_made old.numbers back op
   pub numbers : new.numbers ≡ old.numbers
+
+-- The operation was done and counted: the count increases by 1, up to the greatest number.
+pub record Steps (view : OpView) (old new : MachineState) (row : Option Row) : Type 0 where
+  pub done : Does view old new row
   pub count : new.count ≡ min (old.count + 1) (2 ^ 64 - 1)
 
 -- For each list after which the machine stands, the line is out of range with this operation appended.

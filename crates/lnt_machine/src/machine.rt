@@ -1,12 +1,12 @@
 //! A machine that does one operation after another.
 ghost use Rattle.std.specs.Prelude.{◌≡◌, List, [], ◌∷◌, IfOk, IsOk, IfErr, OnErr, Some, None, if◌then◌else◌};
 ghost use Rattle.lnt_machine.specs.Registers.{IsLine, line};
-ghost use Rattle.lnt_machine.specs.State.{StandsAfter, LeavesRange, Steps};
+ghost use Rattle.lnt_machine.specs.State.{Does, StandsAfter, LeavesRange, Steps};
 ghost use Rattle.lnt_header.specs.OpRules.{StandsFor, Admits};
 ghost use Rattle.lnt_header.specs.declared.op.Op.{Op};
 
 use crate::fault::RunFault;
-use crate::registers::{change, initial, reciprocal_of};
+use crate::registers::{OutOfRange, change, initial, reciprocal_of};
 use crate::row::Row;
 use lnt_header::{Header, HeaderNumbers, OpView};
 use std::marker::Model;
@@ -103,34 +103,35 @@ impl<'a> Machine<'a> {
         ensures unchanged { OnErr result (self.new ≡ self.old) }
     {
         let mut row = self.registers;
-        if self.step_into(view, &mut row)? {
-            Ok(Some(row))
-        } else {
-            Ok(None)
-        }
+        let Ok(appends) = self.step_uncounted(view, &mut row) else {
+            return Err(RunFault::LineOutOfRange(self.count));
+        };
+        self.count = self.count.saturating_add(1);
+        Ok(appends.then_some(row))
     }
 
-    // Does an operation as `step` does. True if it appends a row, which is then put into `row`; else nothing is said of `row`.
+    // Does an operation as `step` does, but doesn't count it: for walks that don't tell which operation failed. True if it appends a
+    // row, which is then put into `row`; else nothing is said of `row`.
     #[inline(always)]
-    pub(crate) fn step_into(&mut self, view: &OpView<'_>, row: &mut Row) -> Result<bool, RunFault>
+    pub(crate) fn step_uncounted(
+        &mut self,
+        view: &OpView<'_>,
+        row: &mut Row,
+    ) -> Result<bool, OutOfRange>
         requires { (op : Op) × StandsFor view.now op × Admits self.old.numbers op }
-        ensures ok { IfOk result (λ appends. Steps view.now self.old self.new (if appends then Some row.new else None)) }
+        ensures ok { IfOk result (λ appends. Does view.now self.old self.new (if appends then Some row.new else None)) }
+        ensures count { self.new.count ≡ self.old.count }
         ensures in_range { (back : List Op) (op : Op) → StandsAfter self.old back → StandsFor view.now op
             → IsLine (line self.old.numbers (op ∷ back)) → IsOk result }
         ensures out_of_range { OnErr result (LeavesRange view.now self.old) }
-        ensures fault { IfErr result (λ fault. fault ≡ RunFault.LineOutOfRange self.old.count) }
         ensures unchanged { OnErr result (self.new ≡ self.old) }
     {
-        let Machine {
-            numbers,
-            registers,
-            reciprocal,
-            count,
-        } = self;
-        let Ok(appends) = change(registers, numbers, *reciprocal, view, row) else {
-            return Err(RunFault::LineOutOfRange(*count));
-        };
-        *count = count.saturating_add(1);
-        Ok(appends)
+        change(
+            &mut self.registers,
+            self.numbers,
+            self.reciprocal,
+            view,
+            row,
+        )
     }
 }

@@ -97,12 +97,13 @@ impl<'a> SequenceRows<'a> {
         let Some(op) = self.ops.next_short() else {
             return None;
         };
-        let Ok(made) = self.machine.step(&op) else {
+        let mut row = self.machine.registers();
+        let Ok(appends) = self.machine.step_uncounted(&op, &mut row) else {
             return None;
         };
-        let Some(row) = made else {
+        if !appends {
             return Some(None);
-        };
+        }
         self.ended = row.end_sequence;
         Some(Some(row))
     }
@@ -156,7 +157,7 @@ fn any_row(machine: &mut Machine<'_>, ops: &mut Ops<'_>, row: &mut Row) -> bool
         let Ok(op) = op else {
             return false;
         };
-        let Ok(appends) = machine.step_into(&op, row) else {
+        let Ok(appends) = machine.step_uncounted(&op, row) else {
             return false;
         };
         if appends {
@@ -179,7 +180,7 @@ fn short_row(machine: &mut Machine<'_>, ops: &mut Ops<'_>, row: &mut Row) -> boo
         → ComesNext h rows (if result then Some row.new else None) machine.new ops.new }
 {
     while let Some(op) = ops.next_short() {
-        let Ok(appends) = machine.step_into(&op, row) else {
+        let Ok(appends) = machine.step_uncounted(&op, row) else {
             return false;
         };
         if appends {

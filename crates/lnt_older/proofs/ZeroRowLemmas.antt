@@ -177,7 +177,7 @@ go_on : {h : NumberParts} {back : List Op} {item : OpView} {made : Option Row} {
 go_on {h} {back} {item} {made} {run} {run'} {walk} {walk'} s step on =
     let op = step.gives.op in
     let has = on.done back op s.done step.gives.stands in
-    let header : run'.machine.numbers ≡ h = on.machine.numbers ∙ s.run_header in
+    let header : run'.machine.numbers ≡ h = on.machine.done.numbers ∙ s.run_header in
     record {
       op = op;
       passes = record {
@@ -185,7 +185,7 @@ go_on {h} {back} {item} {made} {run} {run'} {walk} {walk'} s step on =
         spelled = subst (λ (g : NumberParts). OpBytes g op step.gives.reads.spelling) s.walk_header step.gives.reads.spelled;
         whole = step.gives.reads.whole;
         line_is = subst (λ (g : NumberParts). IsLine (line g (op ∷ back))) header has.machine.line;
-        made_is = on.machine.row_is back op s.done.machine step.gives.stands
+        made_is = on.machine.done.row_is back op s.done.machine step.gives.stands
             ∙ ap (λ (g : NumberParts). row_made g back op) s.run_header;
       };
       stands = record {

@@ -17,7 +17,7 @@ returns-in_err-row-clause-err c =
 pub loop-op-preserved : goal.loop-op-preserved
 loop-op-preserved c =
     let step = gives_op c.in_ok-op.was c.in-Some.ensures.steps in (
-      rw (c.in_ok-row.ensures.ok.machine.numbers, step.header_is) c.loop-op.invariant.0,
+      rw (c.in_ok-row.ensures.ok.machine.done.numbers, step.header_is) c.loop-op.invariant.0,
       omega (arith, step.shorter, c.loop-op.invariant.1),
       passes_more c.loop-op.invariant.2 step c.in_ok-row.ensures.ok c.in_default-2.not-Some,
     )
@@ -50,7 +50,7 @@ returns-in_err-row-clause-same c =
 
 pub returns-in-Some-2-clause-same : goal.returns-in-Some-2-clause-same
 returns-in-Some-2-clause-same c =
-    c.in_ok-row.ensures.ok.machine.numbers ∙ c.loop-op.invariant.0 ∙ sym (gives_op c.in_ok-op.was c.in-Some.ensures.steps).header_is
+    c.in_ok-row.ensures.ok.machine.done.numbers ∙ c.loop-op.invariant.0 ∙ sym (gives_op c.in_ok-op.was c.in-Some.ensures.steps).header_is
 
 pub returns-in-Some-2-clause-shorter : goal.returns-in-Some-2-clause-shorter
 returns-in-Some-2-clause-shorter c =

@@ -2,9 +2,9 @@ use Rattle.std.proofs.Common.{arith}
 use Rattle.lnt_machine.proofs.WalkingLemmas.{next_out, next_quiet, next_row, none_put, row_put}
 use Rattle.lnt_machine.proofs.walk.short_row.Goals as goal
 
-pub returns-in_default-step_into-clause-gives : goal.returns-in_default-step_into-clause-gives
-returns-in_default-step_into-clause-gives c h rows has =
-    absurd (next_out (c.loop-op.invariant.2 h rows has) c.in-Some.ensures.steps c.in_default-step_into.ensures.out_of_range)
+pub returns-in_default-step_uncounted-clause-gives : goal.returns-in_default-step_uncounted-clause-gives
+returns-in_default-step_uncounted-clause-gives c h rows has =
+    absurd (next_out (c.loop-op.invariant.2 h rows has) c.in-Some.ensures.steps c.in_default-step_uncounted.ensures.out_of_range)
 
 pub returns-then-appends-clause-gives : goal.returns-then-appends-clause-gives
 returns-then-appends-clause-gives c h rows has =
