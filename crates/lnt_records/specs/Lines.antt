@@ -1,5 +1,6 @@
 -- A table that is parsed line by line. Public contracts speak of the line of a span alone.
-use Rattle.std.specs.Prelude.{◌≡◌, ℕ, Bool, List, [], ◌∷◌, ◌++◌, Option, Some, None, decimal}
+use Rattle.std.specs.Prelude.{◌≡◌, ℕ, Bool, false, List, [], ◌∷◌, ◌++◌, Option, Some, None, decimal}
+use Rattle.std.specs.Fmt.{digits}
 use Rattle.lnt_text.specs.Digits.{Begins, IsAddress, IsDecimal, IsPlainAddress, IsPlainDecimal}
 use Rattle.lnt_spans.specs.declared.answer.Answer.{Answer}
 use Rattle.lnt_spans.specs.declared.answer.More.{More}
@@ -19,6 +20,10 @@ pub record IsPosition (Address Number : List ℕ → ℕ → Type 0) (position :
   pub joined : bytes ≡ address ++ 44 ∷ (op ++ 44 ∷ rest)
   pub address_is : Address address position.address
   pub op_is : Number op position.op
+
+-- those fields without leading zeros
+abbrev pub position_fields : Position → List ℕ
+position_fields position = 48 ∷ 120 ∷ digits 16 false position.address ++ 44 ∷ (decimal position.op ++ 44 ∷ [])
 
 -- the fields of a unit and a file, each with a comma after it; then `rest`
 pub record AreUnitAndFile (Number : List ℕ → ℕ → Type 0) (unit file : ℕ) (bytes rest : List ℕ) : Type 0 where

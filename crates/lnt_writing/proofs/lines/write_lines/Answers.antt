@@ -1,10 +1,10 @@
 use Rattle.std.proofs.Common.{◌∙◌, ℕ, List, [], ◌∷◌, ◌++◌, ap}
-use Rattle.std.proofs.lemmas.Result.{on_err_weaker}
+use Rattle.std.proofs.lemmas.Result.{on_err_weaker, on_ok_weaker}
 use Rattle.lnt_io.proofs.PrefixLaws.{so_stopped}
-use Rattle.lnt_records.proofs.LineLaws.{lines_sent, no_lines, none_begun, sending_begun, so_far_begun}
+use Rattle.lnt_records.proofs.LineLaws.{lines_sent, lines_written, no_lines, none_begun, sending_begun, so_far_begun}
 use Rattle.lnt_writing.specs.Joined.{Any}
 use Rattle.lnt_compare.proofs.JoiningLemmas.{left_first, left_more}
-use Rattle.lnt_writing.proofs.CanonicalLemmas.{left_any}
+use Rattle.lnt_writing.proofs.CanonicalLemmas.{all_given, left_any}
 use Rattle.lnt_writing.proofs.WritingLemmas.{line_put}
 use Rattle.lnt_writing.proofs.lines.write_lines.Goals as goal
 
@@ -29,6 +29,17 @@ loop-block-preserved g c =
           handed.2,
       λ list come order. left_more _ _ _ list inv.0 span (inv.3 list come order) left,
     )
+
+pub returns-clause-lines : goal.returns-clause-lines
+returns-clause-lines g c =
+    let inv = c.loop-block.invariant in
+    let none = rw c.in_default.is at c.in_ok-span.ensures.left in
+    on_ok_weaker c.send.result
+    (λ handed. (
+      inv.0,
+      λ list come order. all_given _ _ list inv.0 (inv.3 list come order) (λ rest left. (none rest left).0),
+      λ has. lines_written _ _ _ _ _ _ _ (inv.2 has) handed,
+    )) c.send.ensures.handed
 
 pub returns-clause-begun : goal.returns-clause-begun
 returns-clause-begun g c =
